@@ -1,0 +1,35 @@
+-- What holds of every board that meets none of the refusals 1 to 9. The code's proof of it is in crate board; the theorems use nothing else.
+use Prim.Native.Nat.{ℕ, _*_, _≤_, _<_}
+use mathlib.Core.Path.{_≡_}
+use lib.ListN.{length}
+use lib.Dec.{eqb}
+use Rattle.model.specs.Lists.{count}
+use Rattle.model.specs.Track.{Track, Linked, start, leave}
+use Rattle.model.specs.Position.{Position, at, Once}
+
+-- a position laid on a track, as the rules need it; retirements and moves keep it
+pub record Laid (t : Track) (p : Position) : Type 0 where
+  pub each : length p ≡ t .zones
+  pub once : Once p
+  -- a free zone has heading 0
+  pub plain : (z : ℕ) → at p z ≡ 1 → ⊥
+  pub inside : (w : ℕ) → w < 2 * t .zones → start t w < t .points
+  pub home-in : t .home < t .points
+
+-- every two points are linked over zones
+abbrev pub HangsTogether : Track → Type 0
+HangsTogether t = (p q : ℕ) → p < t .points → q < t .points → Linked t (λ z. Unit {0}) p q
+
+pub record Accepted (t : Track) (p : Position) : Type 0 where
+  pub laid : Laid t p
+  pub points-least : 2 ≤ t .points
+  pub points-most : t .points ≤ 64
+  pub zones-least : 2 ≤ t .zones
+  pub zones-most : t .zones ≤ 96
+  pub ends-count : length (t .ends) ≡ 2 * t .zones
+  pub ends-differ : (w : ℕ) → w < 2 * t .zones → start t w ≡ leave t w → ⊥
+  -- carriers are 1 to 255
+  pub numbers : (z : ℕ) → at p z < 512
+  -- each point but home has at least two zones
+  pub two-zones : (q : ℕ) → q < t .points → (q ≡ t .home → ⊥) → 2 ≤ count (eqb q) (t .ends)
+  pub hangs : HangsTogether t

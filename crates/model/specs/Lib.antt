@@ -1,0 +1,6 @@
+pub mod Lists
+pub mod Track
+pub mod Position
+pub mod Labels
+pub mod Reading
+pub mod Accepted

@@ -1,0 +1,1 @@
+// Definitions alone: what a board of document 01 is. See specs/.

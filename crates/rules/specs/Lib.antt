@@ -1,0 +1,6 @@
+pub mod Routes
+pub mod Search
+pub mod Tries
+pub mod Key
+pub mod Collapse
+pub mod Starred

@@ -1,0 +1,1 @@
+// Definitions alone: what the key and the collapse of document 01 are. See specs/.

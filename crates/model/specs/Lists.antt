@@ -1,6 +1,6 @@
 -- Short functions on lists that the definitions are written with.
-use Prim.Native.Nat.{ℕ, zero, suc}
-use mathlib.Core.List.{List, [], _∷_}
+use Prim.Native.Nat.{ℕ, zero, suc, _<_}
+use mathlib.Core.List.{List, [], _∷_, List·Memᴰ}
 use mathlib.Core.Bool.{Bool, true, false, cond, _&&_, _||_}
 use mathlib.Core.Option.{Option, none, some}
 use lib.ListN.{length}
@@ -67,3 +67,8 @@ insert a (b ∷ l) = let r = insert a l in cond (leb a b) (a ∷ b ∷ l) (b ∷
 abbrev pub ascending : List ℕ → List ℕ
 ascending [] = []
 ascending (a ∷ l) = insert a (ascending l)
+
+-- each number is below all that come after it
+abbrev pub Ascending : List ℕ → Type 0
+Ascending [] = Unit {0}
+Ascending (a ∷ l) = ((b : ℕ) → List·Memᴰ b l → a < b) × Ascending l

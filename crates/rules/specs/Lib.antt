@@ -3,4 +3,5 @@ pub mod Search
 pub mod Tries
 pub mod Key
 pub mod Collapse
+pub mod Sheet
 pub mod Starred

@@ -1,0 +1,2 @@
+pub mod RouteMarked
+pub mod PlanMarked

@@ -1,0 +1,4 @@
+pub mod ListLaws
+pub mod PositionLaws
+pub mod LabelLaws
+pub mod ReadingLaws

@@ -1,0 +1,428 @@
+-- Laws of words and positions: the two ways of a zone, what is left when carriers are taken off, who is out, and single moves.
+-- Words go by linear arithmetic; positions by what stands in each zone.
+use Prim.Native.Nat.{ℕ, zero, suc, _+_, _-_, _*_, _/_, _%_, _≤_, _<_}
+use mathlib.Core.Path.{_≡_, refl, sym, _∙_, ap, ap₂, subst}
+use mathlib.Core.Logic.{_⊎_, inl, inr, ⊎-elim}
+use mathlib.Core.List.{List, [], _∷_, map, List·Memᴰ, List·Memᴰ·head, List·Memᴰ·tail, List·Memᴰ·cases-cons, Memᴰ·cast, Memᴰ·map, Memᴰ·of-map}
+use mathlib.Core.Bool.{Bool, true, false, not, cond, true≢false, false≢true, _&&_, _||_}
+use native.Mathlib.Nat.{suc-inj}
+use native.Mathlib.Omega.{arith}
+use lib.ListN.{length, getD, set, length-map, length-set, List·getD-map}
+use lib.Seq.{getD-set-same, getD-set-other, ext-getD}
+use lib.Dec.{leb, eqb}
+use borrow.Author.Tests.{eqb-true, eqb-false, ne-eqb, not-true}
+use Rattle.model.specs.Lists.{below, consIf, keep, any, ascending, Ascending}
+use Rattle.model.specs.Track.{Track, zoneOf, headingOf, rev, start, leave, Linked, here, over}
+use Rattle.model.specs.Position.{Position, at, carrierOf, isFree, Stands, Out, Once, without, retire, outs}
+use Rattle.model.specs.Accepted.{Laid}
+use Rattle.model.proofs.ListLaws.{decided, both-ways, mem-keep, keep-mem, mem-ascending, ascending-mem, ascending-strict, ascending-unique, ascending-no-repeats, keep-ascending, keep-one-fewer, NoRepeats, any-true, any-false, true-any, mem-getD, getD-mem, map-ext}
+
+-- words
+
+pub zone-rev : (w : ℕ) → zoneOf (rev w) ≡ zoneOf w
+zone-rev w = omega arith
+
+pub heading-rev : (w : ℕ) → headingOf (rev w) ≡ 1 - headingOf w
+heading-rev w = omega arith
+
+pub rev-rev : (w : ℕ) → rev (rev w) ≡ w
+rev-rev w = omega arith
+
+pub rev-differs : (w : ℕ) → rev w ≡ w → ⊥
+rev-differs w e = omega arith
+
+pub rev-below : (n w : ℕ) → w < 2 * n → rev w < 2 * n
+rev-below n w h = omega arith
+
+pub zone-below : (n w : ℕ) → w < 2 * n → zoneOf w < n
+zone-below n w h = omega arith
+
+pub below-zone : (n w : ℕ) → zoneOf w < n → w < 2 * n
+below-zone n w h = omega arith
+
+pub heading-small : (w : ℕ) → headingOf w < 2
+heading-small w = omega arith
+
+pub word-parts : (w : ℕ) → 2 * zoneOf w + headingOf w ≡ w
+word-parts w = omega arith
+
+pub zone-word : (z h : ℕ) → h < 2 → zoneOf (2 * z + h) ≡ z
+zone-word z h l = omega arith
+
+pub heading-word : (z h : ℕ) → h < 2 → headingOf (2 * z + h) ≡ h
+heading-word z h l = omega arith
+
+pub carrier-word : (c h : ℕ) → h < 2 → carrierOf (2 * c + h) ≡ c
+carrier-word c h l = omega arith
+
+-- a zone has two words
+pub same-zone : (v w : ℕ) → zoneOf v ≡ zoneOf w → (v ≡ w) ⊎ (v ≡ rev w)
+same-zone v w e = go (eqb (headingOf v) (headingOf w)) refl
+  where
+    go : (t : Bool) → eqb (headingOf v) (headingOf w) ≡ t → (v ≡ w) ⊎ (v ≡ rev w)
+    go true q = let h : headingOf v ≡ headingOf w = eqb-true (headingOf v) (headingOf w) q in inl (omega arith)
+    go false q = let h : headingOf v ≡ headingOf w → ⊥ = eqb-false (headingOf v) (headingOf w) q in inr (omega arith)
+
+module _ (t : Track) where
+  pub leave-rev : (w : ℕ) → leave t (rev w) ≡ start t w
+  leave-rev w = ap (start t) (rev-rev w)
+
+-- what is left when carriers are taken off
+
+kept-zero : (t : Bool) → _≡_ {A = ℕ} (cond t 0 0) 0
+kept-zero true = refl
+kept-zero false = refl
+
+pub length-without : (g : ℕ → Bool) (p : Position) → length (without g p) ≡ length p
+length-without g p = length-map p (λ v. cond (g (carrierOf v)) 0 v)
+
+pub at-without : (g : ℕ → Bool) (p : Position) (z : ℕ) → at (without g p) z ≡ cond (g (carrierOf (at p z))) 0 (at p z)
+at-without g p z = ap (λ (d : ℕ). getD (without g p) z d) (sym (kept-zero (g (carrierOf 0)))) ∙ List·getD-map (λ v. cond (g (carrierOf v)) 0 v) p z 0
+
+pub at-without-gone : (g : ℕ → Bool) (p : Position) (z : ℕ) → g (carrierOf (at p z)) ≡ true → at (without g p) z ≡ 0
+at-without-gone g p z e = at-without g p z ∙ ap (λ (t : Bool). cond t 0 (at p z)) e
+
+pub at-without-kept : (g : ℕ → Bool) (p : Position) (z : ℕ) → g (carrierOf (at p z)) ≡ false → at (without g p) z ≡ at p z
+at-without-kept g p z e = at-without g p z ∙ ap (λ (t : Bool). cond t 0 (at p z)) e
+
+-- a zone is as it was, or was its carrier's that was taken off and is free
+pub without-cases : (g : ℕ → Bool) (p : Position) (z : ℕ) → (at (without g p) z ≡ at p z) ⊎ ((g (carrierOf (at p z)) ≡ true) × (at (without g p) z ≡ 0))
+without-cases g p z = go (decided (g (carrierOf (at p z))))
+  where
+    go : (g (carrierOf (at p z)) ≡ true) ⊎ (g (carrierOf (at p z)) ≡ false) → (at (without g p) z ≡ at p z) ⊎ ((g (carrierOf (at p z)) ≡ true) × (at (without g p) z ≡ 0))
+    go (inl e) = inr (e, at-without-gone g p z e)
+    go (inr e) = inl (at-without-kept g p z e)
+
+pub free-without : (g : ℕ → Bool) (p : Position) (z : ℕ) → at p z ≡ 0 → at (without g p) z ≡ 0
+free-without g p z e = ⊎-elim (λ q. q ∙ e) (λ q. q .1) (without-cases g p z)
+
+pub stands-carrier : {p : Position} {c w : ℕ} → Stands p c w → carrierOf (at p (zoneOf w)) ≡ c
+stands-carrier {p} {c} {w} s = ap carrierOf (s .holds) ∙ carrier-word c (headingOf w) (heading-small w)
+
+pub stands-heading : {p : Position} {c w : ℕ} → Stands p c w → headingOf (at p (zoneOf w)) ≡ headingOf w
+stands-heading {p} {c} {w} s = ap headingOf (s .holds) ∙ heading-word c (headingOf w) (heading-small w)
+
+-- the standing is read off its zone
+pub stands-word : {p : Position} {c w : ℕ} → Stands p c w → 2 * zoneOf w + headingOf (at p (zoneOf w)) ≡ w
+stands-word {p} {c} {w} s = ap (λ (h : ℕ). 2 * zoneOf w + h) (stands-heading s) ∙ word-parts w
+
+pub stands-held : {p : Position} {c w : ℕ} → Stands p c w → at p (zoneOf w) ≡ 0 → ⊥
+stands-held {p} {c} {w} s e = s .numbered (omega (arith, s .holds))
+
+-- one zone, one carrier
+pub stands-same : {p : Position} {c d v w : ℕ} → Stands p c v → Stands p d w → zoneOf v ≡ zoneOf w → (c ≡ d) × (v ≡ w)
+stands-same {p} {c} {d} {v} {w} r s e =
+    let a : at p (zoneOf v) ≡ at p (zoneOf w) = ap (at p) e in
+    (sym (stands-carrier r) ∙ ap carrierOf a ∙ stands-carrier s, sym (stands-word r) ∙ ap₂ (λ (z x : ℕ). 2 * z + headingOf x) e a ∙ stands-word s)
+
+pub without-stands : (g : ℕ → Bool) {p : Position} {c w : ℕ} → Stands p c w → g c ≡ false → Stands (without g p) c w
+without-stands g {p} {c} {w} s e = record {
+  numbered = s .numbered;
+  inside = rw length-without (s .inside);
+  holds = at-without-kept g p (zoneOf w) (ap g (stands-carrier s) ∙ e) ∙ s .holds;
+}
+
+pub stands-without : (g : ℕ → Bool) (p : Position) {c w : ℕ} → Stands (without g p) c w → Stands p c w × (g c ≡ false)
+stands-without g p {c} {w} s = go (without-cases g p (zoneOf w)) (decided (g c))
+  where
+    inside : zoneOf w < length p
+    inside = rw length-without at (s .inside)
+
+    go : (at (without g p) (zoneOf w) ≡ at p (zoneOf w)) ⊎ ((g (carrierOf (at p (zoneOf w))) ≡ true) × (at (without g p) (zoneOf w) ≡ 0)) → (g c ≡ true) ⊎ (g c ≡ false) → Stands p c w × (g c ≡ false)
+    go (inr q) d = absurd (stands-held s (q .1))
+    go (inl q) (inr d) = (record { numbered = s .numbered; inside = inside; holds = sym q ∙ s .holds }, d)
+    go (inl q) (inl d) =
+        absurd (stands-held s (at-without-gone g p (zoneOf w) (ap g (ap carrierOf (sym q) ∙ stands-carrier s) ∙ d)))
+
+pub once-without : (g : ℕ → Bool) (p : Position) → Once p → Once (without g p)
+once-without g p o c w v r s = o c w v (stands-without g p r .0) (stands-without g p s .0)
+
+pub laid-without : (t : Track) (g : ℕ → Bool) (p : Position) → Laid t p → Laid t (without g p)
+laid-without t g p l = record {
+  each = length-without g p ∙ l .each;
+  once = once-without g p (l .once);
+  plain = λ z e. ⊎-elim (λ q. l .plain z (sym q ∙ e)) (λ q. let f : at (without g p) z ≡ 0 = q .1 in omega arith) (without-cases g p z);
+  inside = l .inside;
+  home-in = l .home-in;
+}
+
+pub once-retire : (c : ℕ) (p : Position) → Once p → Once (retire c p)
+once-retire c p = once-without (eqb c) p
+
+pub laid-retire : (t : Track) (c : ℕ) (p : Position) → Laid t p → Laid t (retire c p)
+laid-retire t c p = laid-without t (eqb c) p
+
+-- one carrier taken off leaves the others where they stand
+pub stands-retire : (d : ℕ) (p : Position) {c w : ℕ} → Stands (retire d p) c w → Stands p c w × (d ≡ c → ⊥)
+stands-retire d p {c} s = let r = stands-without (eqb d) p s in (r .0, eqb-false d c (r .1))
+
+pub retire-stands : (d : ℕ) {p : Position} {c w : ℕ} → Stands p c w → (d ≡ c → ⊥) → Stands (retire d p) c w
+retire-stands d {c = c} s n = without-stands (eqb d) s (ne-eqb d c n)
+
+-- taken off in turn is taken off at once
+pub without-without : (f g : ℕ → Bool) (p : Position) → without f (without g p) ≡ without (λ c. g c || f c) p
+without-without f g [] = refl
+without-without f g (v ∷ p) = ap₂ (λ (x : ℕ) (y : List ℕ). x ∷ y) (go (g (carrierOf v))) (without-without f g p)
+  where
+    go : (t : Bool) → cond (f (carrierOf (cond t 0 v))) 0 (cond t 0 v) ≡ cond (t || f (carrierOf v)) 0 v
+    go true = kept-zero (f (carrierOf 0))
+    go false = refl
+
+pub without-ext : (f g : ℕ → Bool) (p : Position) → ((c : ℕ) → f c ≡ g c) → without f p ≡ without g p
+without-ext f g p h = map-ext (λ v. cond (f (carrierOf v)) 0 v) (λ v. cond (g (carrierOf v)) 0 v) p (λ v _. ap (λ (t : Bool). cond t 0 v) (h (carrierOf v)))
+
+or-same : (t : Bool) → (t || t) ≡ t
+or-same true = refl
+or-same false = refl
+
+or-swap : (s t : Bool) → (s || t) ≡ (t || s)
+or-swap true true = refl
+or-swap true false = refl
+or-swap false true = refl
+or-swap false false = refl
+
+pub retire-twice : (c : ℕ) (p : Position) → retire c (retire c p) ≡ retire c p
+retire-twice c p = without-without (eqb c) (eqb c) p ∙ without-ext (λ d. eqb c d || eqb c d) (eqb c) p (λ d. or-same (eqb c d))
+
+pub without-swap : (f g : ℕ → Bool) (p : Position) → without f (without g p) ≡ without g (without f p)
+without-swap f g p = without-without f g p ∙ without-ext (λ c. g c || f c) (λ c. f c || g c) p (λ c. or-swap (g c) (f c)) ∙ sym (without-without g f p)
+
+-- who is out
+
+-- what stands in a held zone
+pub held-stands : (p : Position) (z : ℕ) → z < length p → (carrierOf (at p z) ≡ 0 → ⊥) → Stands p (carrierOf (at p z)) (2 * z + headingOf (at p z))
+held-stands p z h n = record {
+  numbered = n;
+  inside = subst (λ (k : ℕ). k < length p) (sym (zone-word z (headingOf (at p z)) (heading-small (at p z)))) h;
+  holds = ap (at p) (zone-word z (headingOf (at p z)) (heading-small (at p z))) ∙ sym (word-parts (at p z)) ∙ ap (λ (k : ℕ). 2 * carrierOf (at p z) + k) (sym (heading-word z (headingOf (at p z)) (heading-small (at p z))));
+}
+
+module _ (t : Track) (p : Position) (l : Laid t p) where
+  -- a zone that holds a number holds a carrier
+  pub laid-numbered : (z : ℕ) → (at p z ≡ 0 → ⊥) → carrierOf (at p z) ≡ 0 → ⊥
+  laid-numbered z n e = let k : at p z ≡ 1 → ⊥ = l .plain z in omega arith
+
+  pub laid-inside : (z : ℕ) → z < t .zones → z < length p
+  laid-inside z h = subst (λ (k : ℕ). z < k) (sym (l .each)) h
+
+  pub laid-stands : (z : ℕ) → z < t .zones → isFree p z ≡ false → Stands p (carrierOf (at p z)) (2 * z + headingOf (at p z))
+  laid-stands z h e = held-stands p z (laid-inside z h) (laid-numbered z (eqb-false (at p z) 0 e))
+
+  -- a standing is a word of the track
+  pub stands-below : {c w : ℕ} → Stands p c w → w < 2 * t .zones
+  stands-below {c} {w} s = below-zone (t .zones) w (subst (λ (k : ℕ). zoneOf w < k) (l .each) (s .inside))
+
+  pub stands-not-free : {c w : ℕ} → Stands p c w → isFree p (zoneOf w) ≡ false
+  stands-not-free {c} {w} s = ne-eqb (at p (zoneOf w)) 0 (stands-held s)
+
+  -- a zone is free, or a carrier stands in it
+  pub zone-cases : (z : ℕ) → z < t .zones → (at p z ≡ 0) ⊎ Stands p (carrierOf (at p z)) (2 * z + headingOf (at p z))
+  zone-cases z h = go (decided (isFree p z))
+    where
+      go : (isFree p z ≡ true) ⊎ (isFree p z ≡ false) → (at p z ≡ 0) ⊎ Stands p (carrierOf (at p z)) (2 * z + headingOf (at p z))
+      go (inl e) = inl (eqb-true (at p z) 0 e)
+      go (inr e) = inr (laid-stands z h e)
+
+pub mem-outs : (p : Position) {c : ℕ} → List·Memᴰ c (outs p) → Out p c
+mem-outs p {c} m =
+    let k = mem-keep (λ c. not (eqb c 0)) (map carrierOf p) (mem-ascending (keep (λ c. not (eqb c 0)) (map carrierOf p)) m) in
+    let v = Memᴰ·of-map carrierOf p (k .0) in
+    let i = mem-getD 0 (v .1) in
+    let e : carrierOf (at p (i .0)) ≡ c = ap carrierOf (i .2) ∙ v .2 in
+    (2 * i .0 + headingOf (at p (i .0)), subst (λ (x : ℕ). Stands p x (2 * i .0 + headingOf (at p (i .0)))) e (held-stands p (i .0) (i .1) (λ q. eqb-false c 0 (not-true (eqb c 0) (k .1)) (sym e ∙ q))))
+
+pub outs-mem : (p : Position) {c : ℕ} → Out p c → List·Memᴰ c (outs p)
+outs-mem p {c} o =
+    let w : ℕ = o .0 in
+    let s : Stands p c w = o .1 in
+    ascending-mem (keep-mem (λ c. not (eqb c 0)) (Memᴰ·cast (sym (stands-carrier s)) (Memᴰ·map carrierOf (getD-mem 0 p (zoneOf w) (s .inside)))) (ap not (ne-eqb c 0 (s .numbered))))
+
+-- no two zones of a list hold one carrier
+abbrev Apart : Position → Type 0
+Apart p = (i j : ℕ) → i < length p → j < length p → (carrierOf (at p i) ≡ 0 → ⊥) → carrierOf (at p i) ≡ carrierOf (at p j) → i ≡ j
+
+once-apart : (p : Position) → Once p → Apart p
+once-apart p o i j h k n e =
+    let r : Stands p (carrierOf (at p i)) (2 * i + headingOf (at p i)) = held-stands p i h n in
+    let s : Stands p (carrierOf (at p j)) (2 * j + headingOf (at p j)) = held-stands p j k (λ q. n (e ∙ q)) in
+    let q : 2 * i + headingOf (at p i) ≡ 2 * j + headingOf (at p j) = o (carrierOf (at p i)) (2 * i + headingOf (at p i)) (2 * j + headingOf (at p j)) r (subst (λ (c : ℕ). Stands p c (2 * j + headingOf (at p j))) (sym e) s) in
+    omega (arith, heading-small (at p i), heading-small (at p j))
+
+apart-no-repeats : (p : Position) → Apart p → NoRepeats (keep (λ c. not (eqb c 0)) (map carrierOf p))
+apart-no-repeats [] a = tt
+apart-no-repeats (v ∷ p) a = go (eqb (carrierOf v) 0) refl (apart-no-repeats p (λ i j h k n e. suc-inj (a (suc i) (suc j) (omega arith) (omega arith) n e)))
+  where
+    twice : (carrierOf v ≡ 0 → ⊥) → List·Memᴰ (carrierOf v) (keep (λ c. not (eqb c 0)) (map carrierOf p)) → ⊥
+    twice n m =
+        let k = mem-keep (λ c. not (eqb c 0)) (map carrierOf p) m in
+        let u = Memᴰ·of-map carrierOf p (k .0) in
+        let i = mem-getD 0 (u .1) in
+        let q : 0 ≡ suc (i .0) = a 0 (suc (i .0)) (omega arith) (omega (arith, i .1)) n (sym (u .2) ∙ ap carrierOf (sym (i .2))) in
+        omega arith
+
+    go : (t : Bool) → eqb (carrierOf v) 0 ≡ t → NoRepeats (keep (λ c. not (eqb c 0)) (map carrierOf p)) → NoRepeats (consIf (not t) (carrierOf v) (keep (λ c. not (eqb c 0)) (map carrierOf p)))
+    go true e ih = ih
+    go false e ih = (twice (eqb-false (carrierOf v) 0 e), ih)
+
+pub outs-ascending : (p : Position) → Once p → Ascending (outs p)
+outs-ascending p o = ascending-strict (keep (λ c. not (eqb c 0)) (map carrierOf p)) (apart-no-repeats p (once-apart p o))
+
+pub outs-without : (g : ℕ → Bool) (p : Position) → Once p → outs (without g p) ≡ keep (λ c. not (g c)) (outs p)
+outs-without g p o =
+    ascending-unique (outs (without g p)) (keep (λ c. not (g c)) (outs p)) (outs-ascending (without g p) (once-without g p o)) (keep-ascending (λ c. not (g c)) (outs p) (outs-ascending p o)) there back
+  where
+    there : (c : ℕ) → List·Memᴰ c (outs (without g p)) → List·Memᴰ c (keep (λ c. not (g c)) (outs p))
+    there c m =
+        let u = mem-outs (without g p) m in
+        let r = stands-without g p (u .1) in
+        keep-mem (λ c. not (g c)) (outs-mem p (u .0, r .0)) (ap not (r .1))
+
+    back : (c : ℕ) → List·Memᴰ c (keep (λ c. not (g c)) (outs p)) → List·Memᴰ c (outs (without g p))
+    back c m =
+        let k = mem-keep (λ c. not (g c)) (outs p) m in
+        let u = mem-outs p (k .0) in
+        outs-mem (without g p) (u .0, without-stands g (u .1) (not-true (g c) (k .1)))
+
+pub outs-retire : (c : ℕ) (p : Position) → Once p → outs (retire c p) ≡ keep (λ d. not (eqb c d)) (outs p)
+outs-retire c p o = outs-without (eqb c) p o
+
+-- one fewer is out
+pub outs-retire-length : (c : ℕ) (p : Position) → Once p → Out p c → length (outs (retire c p)) + 1 ≡ length (outs p)
+outs-retire-length c p o u = ap (λ (k : List ℕ). length k + 1) (outs-retire c p o) ∙ keep-one-fewer c (outs p) (ascending-no-repeats (outs p) (outs-ascending p o)) (outs-mem p u)
+
+-- a carrier is out or not
+pub out-decided : (p : Position) (c : ℕ) → Out p c ⊎ (Out p c → ⊥)
+out-decided p c = go (decided (any (eqb c) (outs p)))
+  where
+    go : (any (eqb c) (outs p) ≡ true) ⊎ (any (eqb c) (outs p) ≡ false) → Out p c ⊎ (Out p c → ⊥)
+    go (inl e) = let r = any-true (eqb c) (outs p) e in inl (mem-outs p (Memᴰ·cast (eqb-true c (r .0) (r .2)) (r .1)))
+    go (inr e) = inr (λ u. eqb-false c c (any-false (eqb c) e (outs-mem p u)) refl)
+
+pub out-without : (g : ℕ → Bool) (p : Position) {c : ℕ} → Out (without g p) c → Out p c × (g c ≡ false)
+out-without g p u = let r = stands-without g p (u .1) in ((u .0, r .0), r .1)
+
+pub without-out : (g : ℕ → Bool) {p : Position} {c : ℕ} → Out p c → g c ≡ false → Out (without g p) c
+without-out g u e = (u .0, without-stands g (u .1) e)
+
+without-nobody : (q : Position) → without (λ c. false) q ≡ q
+without-nobody [] = refl
+without-nobody (v ∷ q) = ap (λ (r : List ℕ). v ∷ r) (without-nobody q)
+
+-- taking off none that is out changes nothing; and sets that agree on those out leave the same
+module _ (t : Track) (p : Position) (l : Laid t p) where
+  pub without-same : (f g : ℕ → Bool) → ((c : ℕ) → Out p c → f c ≡ g c) → without f p ≡ without g p
+  without-same f g h = map-ext (λ v. cond (f (carrierOf v)) 0 v) (λ v. cond (g (carrierOf v)) 0 v) p each
+    where
+      held : (v : ℕ) → List·Memᴰ v p → (v ≡ 0) ⊎ (v ≡ 0 → ⊥) → cond (f (carrierOf v)) 0 v ≡ cond (g (carrierOf v)) 0 v
+      held v m (inl e) = ap (λ (x : ℕ). cond (f (carrierOf x)) 0 x) e ∙ kept-zero (f (carrierOf 0)) ∙ sym (kept-zero (g (carrierOf 0))) ∙ ap (λ (x : ℕ). cond (g (carrierOf x)) 0 x) (sym e)
+      held v m (inr n) =
+          let i = mem-getD 0 m in
+          let o : Out p (carrierOf (at p (i .0))) = (2 * i .0 + headingOf (at p (i .0)), held-stands p (i .0) (i .1) (laid-numbered t p l (i .0) (λ q. n (sym (i .2) ∙ q)))) in
+          ap (λ (s : Bool). cond s 0 v) (ap (λ (x : ℕ). f (carrierOf x)) (sym (i .2)) ∙ h (carrierOf (at p (i .0))) o ∙ ap (λ (x : ℕ). g (carrierOf x)) (i .2))
+
+      each : (v : ℕ) → List·Memᴰ v p → cond (f (carrierOf v)) 0 v ≡ cond (g (carrierOf v)) 0 v
+      each v m = held v m (⊎-elim (λ e. inl (eqb-true v 0 e)) (λ e. inr (eqb-false v 0 e)) (decided (eqb v 0)))
+
+  pub without-none : (g : ℕ → Bool) → ((c : ℕ) → Out p c → g c ≡ false) → without g p ≡ p
+  without-none g h = without-same g (λ c. false) h ∙ without-nobody p
+
+  pub retire-none : (c : ℕ) → (Out p c → ⊥) → retire c p ≡ p
+  retire-none c n = without-none (eqb c) (λ d o. ne-eqb c d (λ e. n (subst (Out p) (sym e) o)))
+
+-- single moves: carrier c goes from its standing u into the free zone of word w
+
+module _ (t : Track) (p : Position) (l : Laid t p) (c u w : ℕ) (s : Stands p c u) (free : at p (zoneOf w) ≡ 0) (word : w < 2 * t .zones) where
+  abbrev pub movedTo : Position
+  movedTo = set (retire c p) (zoneOf w) (2 * c + headingOf w)
+
+  pub length-moved : length movedTo ≡ length p
+  length-moved = length-set (retire c p) (zoneOf w) (2 * c + headingOf w) ∙ length-without (eqb c) p
+
+  target-inside : zoneOf w < length (retire c p)
+  target-inside = subst (λ (k : ℕ). zoneOf w < k) (sym (length-without (eqb c) p ∙ l .each)) (zone-below (t .zones) w word)
+
+  pub at-moved-here : at movedTo (zoneOf w) ≡ 2 * c + headingOf w
+  at-moved-here = getD-set-same (retire c p) (zoneOf w) (2 * c + headingOf w) 0 target-inside
+
+  pub at-moved-other : (z : ℕ) → (z ≡ zoneOf w → ⊥) → at movedTo z ≡ at (retire c p) z
+  at-moved-other z n = getD-set-other (retire c p) (zoneOf w) z (2 * c + headingOf w) 0 n
+
+  pub moved-stands : Stands movedTo c w
+  moved-stands = record {
+    numbered = s .numbered;
+    inside = subst (λ (k : ℕ). zoneOf w < k) (sym (length-set (retire c p) (zoneOf w) (2 * c + headingOf w))) target-inside;
+    holds = at-moved-here;
+  }
+
+  -- any other carrier stands where it stood
+  pub moved-other : {d v : ℕ} → (c ≡ d → ⊥) → Stands p d v → Stands movedTo d v
+  moved-other {d} {v} n r = record {
+    numbered = r .numbered;
+    inside = subst (λ (k : ℕ). zoneOf v < k) (sym length-moved) (r .inside);
+    holds = at-moved-other (zoneOf v) (λ e. stands-held r (ap (at p) e ∙ free)) ∙ retire-stands c r n .holds;
+  }
+
+  pub other-moved : {d v : ℕ} → (c ≡ d → ⊥) → Stands movedTo d v → Stands p d v
+  other-moved {d} {v} n r = stands-retire c p (record { numbered = r .numbered; inside = subst (λ (k : ℕ). zoneOf v < k) (length-moved ∙ sym (length-without (eqb c) p)) (r .inside); holds = sym (at-moved-other (zoneOf v) elsewhere) ∙ r .holds }) .0
+    where
+      elsewhere : zoneOf v ≡ zoneOf w → ⊥
+      elsewhere e = n (stands-same moved-stands r (sym e) .0)
+
+  -- carrier c stands in the word alone
+  pub moved-here : {v : ℕ} → Stands movedTo c v → v ≡ w
+  moved-here {v} r = go (decided (eqb (zoneOf v) (zoneOf w)))
+    where
+      go : (eqb (zoneOf v) (zoneOf w) ≡ true) ⊎ (eqb (zoneOf v) (zoneOf w) ≡ false) → v ≡ w
+      go (inl e) = stands-same r moved-stands (eqb-true (zoneOf v) (zoneOf w) e) .1
+      go (inr e) = absurd (stands-retire c p old .1 refl)
+        where
+          old : Stands (retire c p) c v
+          old = record { numbered = r .numbered; inside = subst (λ (k : ℕ). zoneOf v < k) (length-moved ∙ sym (length-without (eqb c) p)) (r .inside); holds = sym (at-moved-other (zoneOf v) (eqb-false (zoneOf v) (zoneOf w) e)) ∙ r .holds }
+
+  moved-once : Once movedTo
+  moved-once d v x r q = go (decided (eqb c d))
+    where
+      go : (eqb c d ≡ true) ⊎ (eqb c d ≡ false) → v ≡ x
+      go (inl e) = let k : d ≡ c = sym (eqb-true c d e) in moved-here (subst (λ (y : ℕ). Stands movedTo y v) k r) ∙ sym (moved-here (subst (λ (y : ℕ). Stands movedTo y x) k q))
+      go (inr e) = l .once d v x (other-moved (eqb-false c d e) r) (other-moved (eqb-false c d e) q)
+
+  moved-plain : (z : ℕ) → at movedTo z ≡ 1 → ⊥
+  moved-plain z e = go (decided (eqb z (zoneOf w)))
+    where
+      go : (eqb z (zoneOf w) ≡ true) ⊎ (eqb z (zoneOf w) ≡ false) → ⊥
+      go (inl q) = let h : 2 * c + headingOf w ≡ 1 = sym at-moved-here ∙ ap (at movedTo) (sym (eqb-true z (zoneOf w) q)) ∙ e in s .numbered (omega arith)
+      go (inr q) = laid-retire t c p l .plain z (sym (at-moved-other z (eqb-false z (zoneOf w) q)) ∙ e)
+
+  pub moved-laid : Laid t movedTo
+  moved-laid = record { each = length-moved ∙ l .each; once = moved-once; plain = moved-plain; inside = l .inside; home-in = l .home-in }
+
+-- links
+
+module _ (t : Track) {passes : ℕ → Type 0} where
+  pub linked-trans : {p q r : ℕ} → Linked t passes p q → Linked t passes q r → Linked t passes p r
+  linked-trans here k = k
+  linked-trans (over w h f e l) k = over w h f e (linked-trans l k)
+
+  pub linked-word : (w : ℕ) → w < 2 * t .zones → passes (zoneOf w) → Linked t passes (start t w) (leave t w)
+  linked-word w h f = over w h f refl here
+
+  pub linked-sym : {p q : ℕ} → Linked t passes p q → Linked t passes q p
+  linked-sym here = here
+  linked-sym {p} (over w h f e l) = linked-trans (linked-sym l) (over (rev w) (rev-below (t .zones) w h) (subst passes (sym (zone-rev w)) f) refl (subst (λ (x : ℕ). Linked t passes x p) (sym (leave-rev t w ∙ e)) here))
+
+  pub linked-same : {p q : ℕ} → p ≡ q → Linked t passes p q
+  linked-same {p} e = subst (Linked t passes p) e here
+
+  -- zones that pass one rule and the other alike
+  pub linked-mono : {allows : ℕ → Type 0} → ((z : ℕ) → z < t .zones → passes z → allows z) → {p q : ℕ} → Linked t passes p q → Linked t allows p q
+  linked-mono h here = here
+  linked-mono h (over w b f e l) = over w b (h (zoneOf w) (zone-below (t .zones) w b) f) e (linked-mono h l)
+
+  pub linked-below : ((w : ℕ) → w < 2 * t .zones → start t w < t .points) → {p q : ℕ} → p < t .points → Linked t passes p q → q < t .points
+  linked-below i b here = b
+  linked-below i b (over w h f e l) = linked-below i (i (rev w) (rev-below (t .zones) w h)) l
+
+  -- what is kept over each zone that passes is kept over links
+  pub linked-keeps : (P : ℕ → Type 0) → ((w : ℕ) → w < 2 * t .zones → passes (zoneOf w) → P (start t w) → P (leave t w)) → {p q : ℕ} → Linked t passes p q → P p → P q
+  linked-keeps P k here x = x
+  linked-keeps P k (over w h f e l) x = linked-keeps P k l (k w h f (subst P (sym e) x))

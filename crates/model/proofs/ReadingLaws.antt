@@ -1,0 +1,378 @@
+-- A board that meets none of the refusals 1 to 9 is accepted: what each row's test says when it does not hold.
+-- The rows are taken apart from `refusal` one by one; each then gives its facts about the track and the position said.
+use Prim.Native.Nat.{ℕ, zero, suc, _+_, _*_, _/_, _%_, _≤_, _<_}
+use mathlib.Core.Path.{_≡_, refl, sym, _∙_, ap, ap₂, subst}
+use mathlib.Core.Logic.{_⊎_, inl, inr, ⊎-elim}
+use mathlib.Core.List.{List, [], _∷_, map}
+use mathlib.Core.Bool.{Bool, true, false, cond, not, _&&_, _||_, true≢false, false≢true}
+use native.Mathlib.Omega.{arith}
+use lib.ListN.{length, getD, length-map, List·getD-eq-default}
+use lib.Dec.{leb, ltb, eqb}
+use borrow.Author.Tests.{ltb-true, ltb-false, lt-ltb, leb-true, leb-false, eqb-true, eqb-false, eq-eqb, ne-eqb, not-false}
+use Rattle.model.specs.Lists.{below, any, all, count}
+use Rattle.model.specs.Track.{Track, zoneOf, headingOf, rev, start, leave, Linked}
+use Rattle.model.specs.Position.{Position, at, Stands, Once}
+use Rattle.model.specs.Labels.{label, parts}
+use Rattle.model.specs.Reading.{byte, lengthSaid, pointsSaid, homeSaid, zonesSaid, endA, endB, carrierIn, headingIn, trackSaid, positionSaid, tooShort, wrongLength, wrongVersion, outOfRange, wrongCount, badZone, repeated, thin, apart, refusal}
+use Rattle.model.specs.Accepted.{Laid, Accepted, HangsTogether}
+use Rattle.model.proofs.ListLaws.{both-ways, not-true-false, decided, and-left, and-right, length-below, getD-map-below, any-below-false, below-any, all-below}
+use Rattle.model.proofs.PositionLaws.{zone-below, rev-below, linked-mono}
+use Rattle.model.proofs.LabelLaws.{parts-linked}
+
+-- no row of the refusals holds
+pub record NoRow (b : List ℕ) : Type 0 where
+  pub long : tooShort b ≡ false
+  pub length-said : wrongLength b ≡ false
+  pub version : wrongVersion b ≡ false
+  pub range : outOfRange b ≡ false
+  pub zone-count : wrongCount b ≡ false
+  pub zones : any (badZone b) (below (zonesSaid b)) ≡ false
+  pub repeats : any (repeated b) (below (zonesSaid b)) ≡ false
+  pub thins : any (thin b) (below (pointsSaid b)) ≡ false
+  pub together : apart b ≡ false
+
+cond-zero : (t : Bool) (k x : ℕ) → (k ≡ 0 → ⊥) → cond t k x ≡ 0 → (t ≡ false) × (x ≡ 0)
+cond-zero true k x n e = absurd (n e)
+cond-zero false k x n e = (refl, e)
+
+cond-small : (t : Bool) (k x : ℕ) → k ≤ 9 → x ≤ 9 → cond t k x ≤ 9
+cond-small true k x h i = h
+cond-small false k x h i = i
+
+module _ (b : List ℕ) where
+  row9 : ℕ
+  row9 = cond (apart b) 9 0
+
+  row8 : ℕ
+  row8 = cond (any (thin b) (below (pointsSaid b))) 8 row9
+
+  row7 : ℕ
+  row7 = cond (any (repeated b) (below (zonesSaid b))) 7 row8
+
+  row6 : ℕ
+  row6 = cond (any (badZone b) (below (zonesSaid b))) 6 row7
+
+  row5 : ℕ
+  row5 = cond (wrongCount b) 5 row6
+
+  row4 : ℕ
+  row4 = cond (outOfRange b) 4 row5
+
+  row3 : ℕ
+  row3 = cond (wrongVersion b) 3 row4
+
+  row2 : ℕ
+  row2 = cond (wrongLength b) 2 row3
+
+  refusal-rows : refusal b ≡ cond (tooShort b) 1 row2
+  unfolding refusal row2 row3 row4 row5 row6 row7 row8 row9
+  refusal-rows = refl
+
+  pub no-row : refusal b ≡ 0 → NoRow b
+  unfolding row2 row3 row4 row5 row6 row7 row8 row9
+  no-row e =
+      let r1 = cond-zero (tooShort b) 1 row2 (λ q. omega arith) (sym refusal-rows ∙ e) in
+      let r2 = cond-zero (wrongLength b) 2 row3 (λ q. omega arith) (r1 .1) in
+      let r3 = cond-zero (wrongVersion b) 3 row4 (λ q. omega arith) (r2 .1) in
+      let r4 = cond-zero (outOfRange b) 4 row5 (λ q. omega arith) (r3 .1) in
+      let r5 = cond-zero (wrongCount b) 5 row6 (λ q. omega arith) (r4 .1) in
+      let r6 = cond-zero (any (badZone b) (below (zonesSaid b))) 6 row7 (λ q. omega arith) (r5 .1) in
+      let r7 = cond-zero (any (repeated b) (below (zonesSaid b))) 7 row8 (λ q. omega arith) (r6 .1) in
+      let r8 = cond-zero (any (thin b) (below (pointsSaid b))) 8 row9 (λ q. omega arith) (r7 .1) in
+      let r9 = cond-zero (apart b) 9 0 (λ q. omega arith) (r8 .1) in
+      record {
+        long = r1 .0;
+        length-said = r2 .0;
+        version = r3 .0;
+        range = r4 .0;
+        zone-count = r5 .0;
+        zones = r6 .0;
+        repeats = r7 .0;
+        thins = r8 .0;
+        together = r9 .0;
+      }
+
+  pub refusal-small : refusal b ≤ 9
+  unfolding refusal
+  refusal-small =
+      cond-small (tooShort b) 1 _ (omega arith)
+      (cond-small (wrongLength b) 2 _ (omega arith)
+      (cond-small (wrongVersion b) 3 _ (omega arith)
+      (cond-small (outOfRange b) 4 _ (omega arith)
+      (cond-small (wrongCount b) 5 _ (omega arith)
+      (cond-small (any (badZone b) (below (zonesSaid b))) 6 _ (omega arith)
+      (cond-small (any (repeated b) (below (zonesSaid b))) 7 _ (omega arith)
+      (cond-small (any (thin b) (below (pointsSaid b))) 8 _ (omega arith)
+      (cond-small (apart b) 9 0 (omega arith) (omega arith)))))))))
+
+-- row 4
+pub record InRange (b : List ℕ) : Type 0 where
+  pub points-least : 2 ≤ pointsSaid b
+  pub points-most : pointsSaid b ≤ 64
+  pub home-in : homeSaid b < pointsSaid b
+  pub zones-least : 2 ≤ zonesSaid b
+  pub zones-most : zonesSaid b ≤ 96
+
+-- row 6, of one zone
+pub record GoodZone (b : List ℕ) (z : ℕ) : Type 0 where
+  pub a-in : endA b z < pointsSaid b
+  pub b-in : endB b z < pointsSaid b
+  pub differ : endA b z ≡ endB b z → ⊥
+  pub heading : headingIn b z ≤ 1
+  pub plain : carrierIn b z ≡ 0 → headingIn b z ≡ 1 → ⊥
+
+or-false-left : (s t : Bool) → (s || t) ≡ false → s ≡ false
+or-false-left true t e = e
+or-false-left false t e = refl
+
+or-false-right : (s t : Bool) → (s || t) ≡ false → t ≡ false
+or-false-right true t e = absurd (true≢false e)
+or-false-right false t e = e
+
+and-true : (s t : Bool) → s ≡ true → t ≡ true → (s && t) ≡ true
+and-true true t e f = f
+and-true false t e f = e
+
+module _ (b : List ℕ) (n : NoRow b) where
+  pub in-range : InRange b
+  unfolding outOfRange
+  in-range = record {
+    points-least = leb-true 2 (pointsSaid b) (and-left (leb 2 (pointsSaid b)) rest1 whole);
+    points-most = leb-true (pointsSaid b) 64 (and-left (leb (pointsSaid b) 64) rest2 two);
+    home-in = ltb-true (homeSaid b) (pointsSaid b) (and-left (ltb (homeSaid b) (pointsSaid b)) rest3 three);
+    zones-least = leb-true 2 (zonesSaid b) (and-left (leb 2 (zonesSaid b)) (leb (zonesSaid b) 96) four);
+    zones-most = leb-true (zonesSaid b) 96 (and-right (leb 2 (zonesSaid b)) (leb (zonesSaid b) 96) four);
+  }
+    where
+      rest3 : Bool
+      rest3 = leb 2 (zonesSaid b) && leb (zonesSaid b) 96
+
+      rest2 : Bool
+      rest2 = ltb (homeSaid b) (pointsSaid b) && rest3
+
+      rest1 : Bool
+      rest1 = leb (pointsSaid b) 64 && rest2
+
+      whole : (leb 2 (pointsSaid b) && rest1) ≡ true
+      whole = not-false (leb 2 (pointsSaid b) && rest1) (n .range)
+
+      two : rest1 ≡ true
+      two = and-right (leb 2 (pointsSaid b)) rest1 whole
+
+      three : rest2 ≡ true
+      three = and-right (leb (pointsSaid b) 64) rest2 two
+
+      four : rest3 ≡ true
+      four = and-right (ltb (homeSaid b) (pointsSaid b)) rest3 three
+
+  pub good-zone : (z : ℕ) → z < zonesSaid b → GoodZone b z
+  unfolding badZone
+  good-zone z h = record {
+    a-in = ltb-true (endA b z) (pointsSaid b) (not-false (ltb (endA b z) (pointsSaid b)) (or-false-left (not (ltb (endA b z) (pointsSaid b))) r1 f1));
+    b-in = ltb-true (endB b z) (pointsSaid b) (not-false (ltb (endB b z) (pointsSaid b)) (or-false-left (not (ltb (endB b z) (pointsSaid b))) r2 f2));
+    differ = eqb-false (endA b z) (endB b z) (or-false-left (eqb (endA b z) (endB b z)) r3 f3);
+    heading = leb-true (headingIn b z) 1 (not-false (leb (headingIn b z) 1) (or-false-left (not (leb (headingIn b z) 1)) r4 f4));
+    plain = λ c g. both-ways (and-true (eqb (carrierIn b z) 0) (eqb (headingIn b z) 1) (eq-eqb (carrierIn b z) 0 c) (eq-eqb (headingIn b z) 1 g)) (or-false-right (not (leb (headingIn b z) 1)) r4 f4);
+  }
+    where
+      r4 : Bool
+      r4 = eqb (carrierIn b z) 0 && eqb (headingIn b z) 1
+
+      r3 : Bool
+      r3 = not (leb (headingIn b z) 1) || r4
+
+      r2 : Bool
+      r2 = eqb (endA b z) (endB b z) || r3
+
+      r1 : Bool
+      r1 = not (ltb (endB b z) (pointsSaid b)) || r2
+
+      f1 : (not (ltb (endA b z) (pointsSaid b)) || r1) ≡ false
+      f1 = any-below-false (badZone b) (zonesSaid b) (n .zones) z h
+
+      f2 : r1 ≡ false
+      f2 = or-false-right (not (ltb (endA b z) (pointsSaid b))) r1 f1
+
+      f3 : r2 ≡ false
+      f3 = or-false-right (not (ltb (endB b z) (pointsSaid b))) r2 f2
+
+      f4 : r3 ≡ false
+      f4 = or-false-right (eqb (endA b z) (endB b z)) r3 f3
+
+  -- row 7: no carrier in two zones
+  pub carrier-once : (y z : ℕ) → y < z → z < zonesSaid b → (carrierIn b z ≡ 0 → ⊥) → carrierIn b y ≡ carrierIn b z → ⊥
+  unfolding repeated
+  carrier-once y z h k m e = true≢false (sym twice ∙ any-below-false (repeated b) (zonesSaid b) (n .repeats) z k)
+    where
+      twice : (not (eqb (carrierIn b z) 0) && any (λ x. eqb (carrierIn b x) (carrierIn b z)) (below z)) ≡ true
+      twice = and-true (not (eqb (carrierIn b z) 0)) (any (λ x. eqb (carrierIn b x) (carrierIn b z)) (below z)) (ap not (ne-eqb (carrierIn b z) 0 m)) (below-any (λ x. eqb (carrierIn b x) (carrierIn b z)) z y h (eq-eqb (carrierIn b y) (carrierIn b z) e))
+
+  -- row 8
+  pub not-thin : (p : ℕ) → p < pointsSaid b → (p ≡ homeSaid b → ⊥) → 2 ≤ count (eqb p) (trackSaid b .ends)
+  unfolding thin
+  not-thin p h m = go (decided (ltb (count (eqb p) (trackSaid b .ends)) 2))
+    where
+      go : (ltb (count (eqb p) (trackSaid b .ends)) 2 ≡ true) ⊎ (ltb (count (eqb p) (trackSaid b .ends)) 2 ≡ false) → 2 ≤ count (eqb p) (trackSaid b .ends)
+      go (inl e) = both-ways (and-true (not (eqb p (homeSaid b))) (ltb (count (eqb p) (trackSaid b .ends)) 2) (ap not (ne-eqb p (homeSaid b) m)) e) (any-below-false (thin b) (pointsSaid b) (n .thins) p h)
+      go (inr e) = ltb-false (count (eqb p) (trackSaid b .ends)) 2 e
+
+-- what the bytes say of the track and the position
+
+module _ (b : List ℕ) where
+  pub start-said : (w : ℕ) → w < 2 * zonesSaid b → start (trackSaid b) w ≡ byte b (4 * (w / 2) + w % 2 + 6)
+  unfolding trackSaid
+  start-said w h = getD-map-below (λ w. byte b (4 * (w / 2) + w % 2 + 6)) (2 * zonesSaid b) w 0 h
+
+  pub start-a : (w : ℕ) → w < 2 * zonesSaid b → headingOf w ≡ 0 → start (trackSaid b) w ≡ endA b (zoneOf w)
+  start-a w h e = start-said w h ∙ ap (byte b) s
+    where
+      s : 4 * (w / 2) + w % 2 + 6 ≡ 4 * zoneOf w + 6
+      s = omega arith
+
+  pub start-b : (w : ℕ) → w < 2 * zonesSaid b → headingOf w ≡ 1 → start (trackSaid b) w ≡ endB b (zoneOf w)
+  start-b w h e = start-said w h ∙ ap (byte b) s
+    where
+      s : 4 * (w / 2) + w % 2 + 6 ≡ 4 * zoneOf w + 7
+      s = omega arith
+
+  heading-cases : (w : ℕ) → (headingOf w ≡ 0) ⊎ (headingOf w ≡ 1)
+  heading-cases w = go (decided (eqb (headingOf w) 0))
+    where
+      go : (eqb (headingOf w) 0 ≡ true) ⊎ (eqb (headingOf w) 0 ≡ false) → (headingOf w ≡ 0) ⊎ (headingOf w ≡ 1)
+      go (inl e) = inl (eqb-true (headingOf w) 0 e)
+      go (inr e) = let q : headingOf w ≡ 0 → ⊥ = eqb-false (headingOf w) 0 e in inr (omega arith)
+
+  pub length-position : length (positionSaid b) ≡ zonesSaid b
+  unfolding positionSaid
+  length-position = length-map (below (zonesSaid b)) (λ z. 2 * carrierIn b z + headingIn b z) ∙ length-below (zonesSaid b)
+
+  pub at-said : (z : ℕ) → z < zonesSaid b → at (positionSaid b) z ≡ 2 * carrierIn b z + headingIn b z
+  unfolding positionSaid
+  at-said z h = getD-map-below (λ z. 2 * carrierIn b z + headingIn b z) (zonesSaid b) z 0 h
+
+  pub at-past : (z : ℕ) → zonesSaid b ≤ z → at (positionSaid b) z ≡ 0
+  at-past z h = List·getD-eq-default (positionSaid b) 0 (rw length-position h)
+
+  pub length-ends : length (trackSaid b .ends) ≡ 2 * zonesSaid b
+  unfolding trackSaid
+  length-ends = length-map (below (2 * zonesSaid b)) (λ w. byte b (4 * (w / 2) + w % 2 + 6)) ∙ length-below (2 * zonesSaid b)
+
+  pub points-said : trackSaid b .points ≡ pointsSaid b
+  unfolding trackSaid
+  points-said = refl
+
+  pub home-said : trackSaid b .home ≡ homeSaid b
+  unfolding trackSaid
+  home-said = refl
+
+  pub zones-said : trackSaid b .zones ≡ zonesSaid b
+  unfolding trackSaid
+  zones-said = refl
+
+module _ (b : List ℕ) (n : NoRow b) where
+  start-in : (w : ℕ) → w < 2 * zonesSaid b → start (trackSaid b) w < pointsSaid b
+  start-in w h = go (heading-cases b w)
+    where
+      good : GoodZone b (zoneOf w)
+      good = good-zone b n (zoneOf w) (zone-below (zonesSaid b) w h)
+
+      go : (headingOf w ≡ 0) ⊎ (headingOf w ≡ 1) → start (trackSaid b) w < pointsSaid b
+      go (inl e) = rw (start-a b w h e) (good .a-in)
+      go (inr e) = rw (start-b b w h e) (good .b-in)
+
+  ends-apart : (w : ℕ) → w < 2 * zonesSaid b → start (trackSaid b) w ≡ start (trackSaid b) (rev w) → ⊥
+  ends-apart w h q = go (heading-cases b w)
+    where
+      good : GoodZone b (zoneOf w)
+      good = good-zone b n (zoneOf w) (zone-below (zonesSaid b) w h)
+
+      k : rev w < 2 * zonesSaid b
+      k = rev-below (zonesSaid b) w h
+
+      z : zoneOf (rev w) ≡ zoneOf w
+      z = omega arith
+
+      go : (headingOf w ≡ 0) ⊎ (headingOf w ≡ 1) → ⊥
+      go (inl e) = good .differ (sym (start-a b w h e) ∙ q ∙ start-b b (rev w) k (omega arith) ∙ ap (endB b) z)
+      go (inr e) = good .differ (ap (endA b) (sym z) ∙ sym (start-a b (rev w) k (omega arith)) ∙ sym q ∙ start-b b w h e)
+
+  -- the carrier of a standing is the byte of its zone
+  stands-said : (c w : ℕ) → Stands (positionSaid b) c w → (zoneOf w < zonesSaid b) × (carrierIn b (zoneOf w) ≡ c) × (headingIn b (zoneOf w) ≡ headingOf w)
+  stands-said c w s =
+      let h : zoneOf w < zonesSaid b = rw length-position at (s .inside) in
+      let e : 2 * carrierIn b (zoneOf w) + headingIn b (zoneOf w) ≡ 2 * c + headingOf w = sym (at-said b (zoneOf w) h) ∙ s .holds in
+      let g : headingIn b (zoneOf w) ≤ 1 = good-zone b n (zoneOf w) h .heading in
+      (h, omega arith, omega arith)
+
+  once-said : Once (positionSaid b)
+  once-said c w v r s = go (decided (ltb (zoneOf w) (zoneOf v))) (decided (ltb (zoneOf v) (zoneOf w)))
+    where
+      x : (zoneOf w < zonesSaid b) × (carrierIn b (zoneOf w) ≡ c) × (headingIn b (zoneOf w) ≡ headingOf w)
+      x = stands-said c w r
+
+      y : (zoneOf v < zonesSaid b) × (carrierIn b (zoneOf v) ≡ c) × (headingIn b (zoneOf v) ≡ headingOf v)
+      y = stands-said c v s
+
+      go : (ltb (zoneOf w) (zoneOf v) ≡ true) ⊎ (ltb (zoneOf w) (zoneOf v) ≡ false) → (ltb (zoneOf v) (zoneOf w) ≡ true) ⊎ (ltb (zoneOf v) (zoneOf w) ≡ false) → w ≡ v
+      go (inl e) d = absurd (carrier-once b n (zoneOf w) (zoneOf v) (ltb-true (zoneOf w) (zoneOf v) e) (y .0) (λ q. r .numbered (sym (y .1) ∙ q)) (x .1 ∙ sym (y .1)))
+      go (inr e) (inl d) = absurd (carrier-once b n (zoneOf v) (zoneOf w) (ltb-true (zoneOf v) (zoneOf w) d) (x .0) (λ q. r .numbered (sym (x .1) ∙ q)) (y .1 ∙ sym (x .1)))
+      go (inr e) (inr d) =
+          let f : zoneOf v ≤ zoneOf w = ltb-false (zoneOf w) (zoneOf v) e in
+          let g : zoneOf w ≤ zoneOf v = ltb-false (zoneOf v) (zoneOf w) d in
+          let z : zoneOf w ≡ zoneOf v = omega arith in
+          let k : headingOf w ≡ headingOf v = sym (x .2) ∙ ap (headingIn b) z ∙ y .2 in
+          omega arith
+
+  zone-inside : (z : ℕ) → (z < zonesSaid b) ⊎ (zonesSaid b ≤ z)
+  zone-inside z = ⊎-elim (λ e. inl (ltb-true z (zonesSaid b) e)) (λ e. inr (ltb-false z (zonesSaid b) e)) (decided (ltb z (zonesSaid b)))
+
+  plain-said : (z : ℕ) → at (positionSaid b) z ≡ 1 → ⊥
+  plain-said z e = go (zone-inside z)
+    where
+      go : (z < zonesSaid b) ⊎ (zonesSaid b ≤ z) → ⊥
+      go (inl h) =
+          let q : 2 * carrierIn b z + headingIn b z ≡ 1 = sym (at-said b z h) ∙ e in
+          good-zone b n z h .plain (omega arith) (omega arith)
+      go (inr h) = let q : at (positionSaid b) z ≡ 0 = at-past b z h in omega arith
+
+  pub laid : Laid (trackSaid b) (positionSaid b)
+  unfolding trackSaid
+  laid = record { each = length-position b; once = once-said; plain = plain-said; inside = start-in; home-in = in-range b n .home-in }
+
+  -- row 9
+  hangs-said : HangsTogether (trackSaid b)
+  unfolding apart trackSaid
+  hangs-said p q h k = linked-mono (trackSaid b) (λ z _ _. tt) (parts-linked (trackSaid b) start-in (λ z. true) p q h k (of-home p h ∙ sym (of-home q k)))
+    where
+      of-home : (r : ℕ) → r < pointsSaid b → label (parts (trackSaid b) (λ z. true)) r ≡ label (parts (trackSaid b) (λ z. true)) (homeSaid b)
+      of-home r i = eqb-true (label (parts (trackSaid b) (λ z. true)) r) (label (parts (trackSaid b) (λ z. true)) (homeSaid b)) (all-below (λ x. eqb (label (parts (trackSaid b) (λ z. true)) x) (label (parts (trackSaid b) (λ z. true)) (homeSaid b))) (pointsSaid b) (not-false (all (λ x. eqb (label (parts (trackSaid b) (λ z. true)) x) (label (parts (trackSaid b) (λ z. true)) (homeSaid b))) (below (pointsSaid b))) (n .together)) r i)
+
+  numbers-said : ((i : ℕ) → getD b i 0 < 256) → (z : ℕ) → at (positionSaid b) z < 512
+  numbers-said bytes z = go (zone-inside z)
+    where
+      go : (z < zonesSaid b) ⊎ (zonesSaid b ≤ z) → at (positionSaid b) z < 512
+      go (inl h) =
+          let q : at (positionSaid b) z ≡ 2 * carrierIn b z + headingIn b z = at-said b z h in
+          let k : carrierIn b z < 256 = bytes (4 * z + 8) in
+          let g : headingIn b z ≤ 1 = good-zone b n z h .heading in
+          omega arith
+      go (inr h) = let q : at (positionSaid b) z ≡ 0 = at-past b z h in omega arith
+
+-- a board of bytes that meets none of the refusals is accepted
+pub accepted : (b : List ℕ) → ((i : ℕ) → getD b i 0 < 256) → refusal b ≡ 0 → Accepted (trackSaid b) (positionSaid b)
+unfolding trackSaid
+accepted b bytes e =
+    let n : NoRow b = no-row b e in
+    let r : InRange b = in-range b n in
+    record {
+      laid = laid b n;
+      points-least = r .points-least;
+      points-most = r .points-most;
+      zones-least = r .zones-least;
+      zones-most = r .zones-most;
+      ends-count = length-ends b;
+      ends-differ = ends-apart b n;
+      numbers = numbers-said b n bytes;
+      two-zones = not-thin b n;
+      hangs = hangs-said b n;
+    }

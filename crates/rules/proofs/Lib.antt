@@ -1,0 +1,2 @@
+pub mod StarredHold
+pub mod StepTested

@@ -1,0 +1,101 @@
+-- The sheet: what a candidate writes, when it is right, and the number that the marker gives it.
+use Prim.Native.Nat.{ℕ, zero, suc, _+_, _*_}
+use mathlib.Core.List.{List, [], _∷_, _++_, List·Memᴰ}
+use mathlib.Core.Path.{_≡_}
+use mathlib.Core.Bool.{Bool, true, false, cond, not, _&&_, _||_}
+use mathlib.Core.Logic.{_⊎_, _↔_}
+use lib.ListN.{length, take, drop}
+use lib.Dec.{ltb, eqb}
+use Rattle.model.specs.Lists.{any, Ascending}
+use Rattle.model.specs.Track.{Track, zoneOf, headingOf}
+use Rattle.model.specs.Position.{Position, at, carrierOf, retire, outs}
+use Rattle.model.specs.Reading.{refusal, trackSaid, positionSaid}
+use Rattle.rules.specs.Routes.{Entry, Retires, Empty, Blocked}
+use Rattle.rules.specs.Key.{steps, leavesHome, planWords, named}
+
+-- first 0, then a plan in the key's form: an order of all carriers out with routes, any order and routes
+pub record OrderGiven (t : Track) (p : Position) (sheet : List ℕ) : Type 0 where
+  pub entries : List Entry
+  pub last : Position
+  pub written : sheet ≡ 0 ∷ planWords entries
+  pub retires : Retires t p entries last
+  pub empty : Empty last
+
+-- first 1, then exactly the blocked carriers ascending, of which there are some
+pub record BlockedNamed (t : Track) (p : Position) (sheet : List ℕ) : Type 0 where
+  pub list : List ℕ
+  pub written : sheet ≡ 1 ∷ list
+  pub some : list ≡ [] → ⊥
+  pub ascending : Ascending list
+  pub blocked : (c : ℕ) → List·Memᴰ c list ↔ Blocked t p c
+
+-- demand 2: a sheet passes exactly if it is right
+abbrev pub Right : Track → Position → List ℕ → Type 0
+Right t p sheet = OrderGiven t p sheet ⊎ BlockedNamed t p sheet
+
+-- the carrier is still out
+unfoldable pub stillOut : Position → ℕ → Bool
+stillOut p c = not (eqb c 0) && any (λ v. eqb (carrierOf v) c) p
+
+module _ (t : Track) (p : Position) (c : ℕ) where
+  -- each word is below 2 × Z and follows the one before by the moving rules
+  unfoldable pub follow : ℕ → List ℕ → Bool
+  follow w [] = true
+  follow w (v ∷ vs) = ltb v (2 * t .zones) && (steps t p c w v && follow v vs)
+
+  -- the first word is the carrier's standing, and the others follow
+  unfoldable pub byRules : List ℕ → Bool
+  byRules [] = false
+  byRules (w ∷ vs) = ltb w (2 * t .zones) && (eqb (at p (zoneOf w)) (2 * c + headingOf w) && follow w vs)
+
+-- the last word leaves at the home point
+unfoldable pub endsHome : Track → List ℕ → Bool
+endsHome t [] = false
+endsHome t (w ∷ []) = leavesHome t w
+endsHome t (w ∷ v ∷ vs) = endsHome t (v ∷ vs)
+
+-- at the end: 34 where a carrier is still out
+unfoldable pub markEnd : Position → ℕ
+markEnd p = cond (eqb (length (outs p)) 0) 0 34
+
+-- one entry, and then the rest: 30 for an entry with under two words, count 0 or a count past the end; 31 for a carrier that
+-- isn't still out; 32 for a word against the rules; 33 for a route that doesn't leave at home
+unfoldable pub markEntry : Track → Position → List ℕ → (Position → List ℕ → ℕ) → ℕ
+markEntry t p [] rest = markEnd p
+markEntry t p (c ∷ []) rest = 30
+markEntry t p (c ∷ k ∷ ws) rest =
+    let onwards = rest (retire c p) (drop k ws) in
+    cond (eqb k 0 || ltb (length ws) k) 30
+    (cond (not (stillOut p c)) 31
+    (cond (not (byRules t p c (take k ws))) 32
+    (cond (not (endsHome t (take k ws))) 33 onwards)))
+
+-- entry by entry; there are fewer entries than words
+unfoldable pub markEntries : ℕ → Track → Position → List ℕ → ℕ
+markEntries zero t p ws = markEnd p
+markEntries (suc n) t p ws = markEntry t p ws (markEntries n t)
+
+-- the two lists are the same
+unfoldable pub sameList : List ℕ → List ℕ → Bool
+sameList [] [] = true
+sameList [] (b ∷ m) = false
+sameList (a ∷ l) [] = false
+sameList (a ∷ l) (b ∷ m) = eqb a b && sameList l m
+
+-- a claim of blocked is right only with the true, non-empty list
+unfoldable pub markClaim : Track → Position → List ℕ → ℕ
+markClaim t p [] = 35
+markClaim t p (c ∷ cs) = cond (sameList (c ∷ cs) (named t p)) 0 35
+
+unfoldable pub markFor : Track → Position → List ℕ → ℕ
+markFor t p [] = 30
+markFor t p (kind ∷ ws) =
+    let plan = markEntries (length ws) t p ws in
+    let claim = markClaim t p ws in
+    cond (eqb kind 0) plan (cond (eqb kind 1) claim 30)
+
+-- the number of a sheet on a board in bytes: 1 to 9 for a bad board
+unfoldable pub markOf : List ℕ → List ℕ → ℕ
+markOf b sheet =
+    let m = markFor (trackSaid b) (positionSaid b) sheet in
+    cond (eqb (refusal b) 0) m (refusal b)

@@ -1,0 +1,7 @@
+pub mod Members
+pub mod Words
+pub mod WalkLaws
+pub mod OneMore
+pub mod Part
+pub mod Whole
+pub mod Turning

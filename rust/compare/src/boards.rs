@@ -1,0 +1,79 @@
+//! Random boards: accepted ones of every density, and damaged ones.
+
+use crate::random::Random;
+use second::{Board, Zone};
+
+/// An accepted board with so many points and at most so many zones; each zone is held once in `sparse` times (1: every zone).
+pub fn accepted(random: &mut Random, points: usize, zones: usize, sparse: usize) -> Board {
+    let home = random.below(points);
+    let mut ends: Vec<(usize, usize)> = Vec::new();
+    // A random tree, so that all hangs together, then zones for points that have but one, then more at random, parallel ones among them.
+    for p in 1..points {
+        ends.push((p, random.below(p)));
+    }
+    for p in (0..points).filter(|&p| p != home) {
+        let degree = ends.iter().filter(|&&(a, b)| a == p || b == p).count();
+        for _ in degree..2 {
+            let other = (p + 1 + random.below(points - 1)) % points;
+            ends.push((p, other));
+        }
+    }
+    while ends.len() < zones {
+        let a = random.below(points);
+        let near = if random.once_in(3) { ends[random.below(ends.len())] } else { (a, (a + 1 + random.below(points - 1)) % points) };
+        ends.push(near);
+    }
+    if ends.len() < 2 {
+        ends.push(ends[0]);
+    }
+    shuffle(random, &mut ends);
+    let mut numbers: Vec<u32> = (1..=255).collect();
+    shuffle(random, &mut numbers);
+    let zones = ends
+        .into_iter()
+        .enumerate()
+        .map(|(z, (a, b))| {
+            let (a, b) = if random.once_in(2) { (a, b) } else { (b, a) };
+            let held = sparse == 1 || random.once_in(sparse);
+            Zone { a, b, carrier: if held { numbers[z] } else { 0 }, heading: if held { random.below(2) as u32 } else { 0 } }
+        })
+        .collect();
+    Board { points, home, zones }
+}
+
+pub fn shuffle<T>(random: &mut Random, items: &mut [T]) {
+    for i in (1..items.len()).rev() {
+        items.swap(i, random.below(i + 1));
+    }
+}
+
+/// The bytes of a board with a few of them changed, cut off or added.
+pub fn damaged(random: &mut Random, board: &Board) -> Vec<u8> {
+    let mut bytes = board.bytes();
+    for _ in 0..1 + random.below(3) {
+        match random.below(5) {
+            0 => {
+                bytes.truncate(random.below(bytes.len() + 1));
+            }
+            1 => bytes.extend((0..random.below(9)).map(|_| random.next() as u8)),
+            2 if bytes.len() > 6 => {
+                // A zone more or fewer, with the lengths put right: later rows are met.
+                bytes.truncate(6 + (bytes.len() - 6) / 4 * 4 - 4 * random.below(2));
+                set_lengths(&mut bytes);
+            }
+            _ if !bytes.is_empty() => {
+                let at = random.below(bytes.len().min(if random.once_in(2) { 6 } else { usize::MAX }));
+                bytes[at] = if random.once_in(2) { random.below(4) as u8 } else { random.next() as u8 };
+            }
+            _ => {}
+        }
+    }
+    bytes
+}
+
+fn set_lengths(bytes: &mut [u8]) {
+    let said = bytes.len() - 2;
+    bytes[0] = (said / 256) as u8;
+    bytes[1] = (said % 256) as u8;
+    bytes[5] = ((bytes.len() - 6) / 4) as u8;
+}

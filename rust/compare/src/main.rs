@@ -1,0 +1,158 @@
+//! Compares the proved library with the second implementation on many boards and sheets, whole: numbers, lengths, every word of plan and
+//! list, and canaries past what may be written. Ends with status 1 at the first difference.
+
+mod boards;
+mod random;
+mod sheets;
+
+use random::Random;
+use second::Board;
+
+const SEED: u64 = 20_261_115;
+const CANARY_WORD: u16 = 0xA5C3;
+const CANARY_BYTE: u8 = 0xB7;
+
+#[derive(Default)]
+struct Tally {
+    boards: usize,
+    accepted: usize,
+    sheets: usize,
+    passed: usize,
+    exhaustive: usize,
+    full: usize,
+    verdicts: std::collections::BTreeMap<u32, usize>,
+    marks: std::collections::BTreeMap<u32, usize>,
+}
+
+fn differ(what: &str, board: &[u8], detail: String) -> ! {
+    println!("difference: {what}");
+    println!("board: {}", board.iter().map(|b| format!("{b:02X}")).collect::<Vec<_>>().join(" "));
+    println!("{detail}");
+    std::process::exit(1);
+}
+
+/// The key and the collapse with this room lent.
+fn compare_key(tally: &mut Tally, bytes: &[u8], plan_room: usize, list_room: usize) {
+    let expected = second::key(bytes, plan_room, list_room);
+    let mut plan = vec![CANARY_WORD; plan_room];
+    let mut list = vec![CANARY_BYTE; list_room];
+    let got = nizkabel::key(bytes, &mut plan, &mut list);
+    let mut whole_plan = expected.plan.clone();
+    whole_plan.resize(plan_room.max(whole_plan.len()), CANARY_WORD);
+    let mut whole_list: Vec<u8> = expected.list.iter().map(|&c| c as u8).collect();
+    whole_list.resize(list_room.max(whole_list.len()), CANARY_BYTE);
+    let same = got.verdict == expected.verdict && got.words == expected.plan.len() && got.length == expected.list.len();
+    if !same || plan != whole_plan || list != whole_list {
+        differ("key", bytes, format!("expected {expected:?}\ngot {got:?}\nplan {plan:?}\nlist {list:?}"));
+    }
+    *tally.verdicts.entry(got.verdict).or_default() += 1;
+
+    let (number, left) = second::collapse(bytes, list_room);
+    let mut list = vec![CANARY_BYTE; list_room];
+    let got = nizkabel::collapse(bytes, &mut list);
+    let mut whole_list: Vec<u8> = left.iter().map(|&c| c as u8).collect();
+    whole_list.resize(list_room.max(whole_list.len()), CANARY_BYTE);
+    if got.number != number || got.count != left.len() || list != whole_list {
+        differ("collapse", bytes, format!("expected {number} {left:?}\ngot {got:?}\nlist {list:?}"));
+    }
+}
+
+fn compare_mark(tally: &mut Tally, bytes: &[u8], sheet: &[u16]) {
+    let expected = second::mark(bytes, sheet);
+    let got = nizkabel::mark(bytes, sheet);
+    if got != expected {
+        differ("mark", bytes, format!("sheet {sheet:?}\nexpected {expected}\ngot {got}"));
+    }
+    tally.sheets += 1;
+    tally.passed += (got == 0) as usize;
+    *tally.marks.entry(got).or_default() += 1;
+}
+
+fn compare_board(tally: &mut Tally, random: &mut Random, board: &Board) {
+    let bytes = board.bytes();
+    let (out, zones) = (board.carriers().len(), board.zones.len());
+    let room = out * (2 + 2 * zones);
+    tally.boards += 1;
+    tally.accepted += 1;
+    if second::read(&bytes).as_ref() != Ok(board) {
+        differ("the generator made a board that is not accepted", &bytes, String::new());
+    }
+    compare_key(tally, &bytes, room + random.below(3), out + random.below(3));
+    if random.once_in(8) {
+        compare_key(tally, &bytes, room.saturating_sub(1), out.saturating_sub(random.below(2)));
+        compare_key(tally, &bytes, room, out.saturating_sub(1));
+    }
+    let named = second::named(board);
+    let tried = sheets::by_tries(random, board);
+    let claim = sheets::claim(&named);
+    for sheet in [&tried, &claim] {
+        compare_mark(tally, &bytes, sheet);
+        compare_mark(tally, &bytes, &sheets::spoilt(random, sheet));
+    }
+    compare_mark(tally, &bytes, &sheets::noise(random));
+}
+
+/// Small boards against every order, every route and, where every zone is held, every position of single moves.
+fn compare_exhaustive(tally: &mut Tally, board: &Board) {
+    let bytes = board.bytes();
+    let found = second::key_by_enumeration(board);
+    let expected = second::key(&bytes, 10_000, 255);
+    if found.key != expected || found.ordered != (expected.verdict == 0) || second::left(board) != expected.list {
+        differ("the second implementation with itself", &bytes, format!("{:?}\n{:?}", found.key, expected));
+    }
+    if board.zones.iter().all(|z| z.carrier != 0) {
+        tally.full += 1;
+        if !second::all_positions_keep(board, &expected.list) {
+            differ("a named carrier moved on a full board", &bytes, String::new());
+        }
+    }
+    tally.exhaustive += 1;
+}
+
+fn main() {
+    let mut random = Random::new(SEED);
+    let mut tally = Tally::default();
+    println!("seed {SEED}");
+    for round in 0..80_000 {
+        let points = 2 + random.below(4);
+        let zones = 2 + random.below(6);
+        let sparse = 1 + random.below(4);
+        let board = boards::accepted(&mut random, points, zones, sparse);
+        compare_board(&mut tally, &mut random, &board);
+        if round % 8 == 0 && board.zones.len() <= 6 {
+            compare_exhaustive(&mut tally, &board);
+        }
+    }
+    for _ in 0..2_500 {
+        let points = 2 + random.below(40);
+        let sparse = 1 + random.below(6);
+        let zones = (2 * points).min(96).min(2 + random.below(95));
+        let board = boards::accepted(&mut random, points, zones, sparse);
+        if board.zones.len() <= 96 {
+            compare_board(&mut tally, &mut random, &board);
+        }
+    }
+    for _ in 0..30_000 {
+        let points = 2 + random.below(5);
+        let zones = 2 + random.below(6);
+        let sparse = 1 + random.below(3);
+        let board = boards::accepted(&mut random, points, zones, sparse);
+        let bytes = boards::damaged(&mut random, &board);
+        tally.boards += 1;
+        tally.accepted += second::read(&bytes).is_ok() as usize;
+        let (plan_room, list_room) = (random.below(300), random.below(12));
+        compare_key(&mut tally, &bytes, plan_room, list_room);
+        compare_mark(&mut tally, &bytes, &sheets::noise(&mut random));
+    }
+    for _ in 0..5_000 {
+        let bytes: Vec<u8> = (0..random.below(40)).map(|_| random.next() as u8).collect();
+        tally.boards += 1;
+        compare_key(&mut tally, &bytes, 8, 8);
+    }
+    println!(
+        "{} boards ({} accepted), {} sheets ({} passed), {} boards by exhaustion, {} of them full: no difference",
+        tally.boards, tally.accepted, tally.sheets, tally.passed, tally.exhaustive, tally.full
+    );
+    println!("verdicts {:?}", tally.verdicts);
+    println!("marks {:?}", tally.marks);
+}

@@ -1,0 +1,70 @@
+//! Sheets for a board: right ones by orders and routes other than the key's, claims, spoilt and random ones.
+
+use crate::random::Random;
+use second::Board;
+
+/// A route home of a carrier by a random walk, if one is found.
+fn wandering(random: &mut Random, board: &Board, carrier: u32) -> Option<Vec<usize>> {
+    let mut route = vec![board.standing(carrier)?];
+    for _ in 0..4 * board.words() {
+        let last = *route.last().unwrap();
+        if board.leave(last) == board.home && !random.once_in(4) {
+            return Some(route);
+        }
+        let next: Vec<usize> = (0..board.words()).filter(|&v| board.may_follow(carrier, last, v)).collect();
+        if next.is_empty() {
+            break;
+        }
+        route.push(next[random.below(next.len())]);
+    }
+    (board.leave(*route.last().unwrap()) == board.home).then_some(route)
+}
+
+/// An order by random tries, each with a wandering route: as many carriers as it gets home.
+pub fn by_tries(random: &mut Random, board: &Board) -> Vec<u16> {
+    let mut now = board.clone();
+    let mut sheet = vec![0];
+    let mut failures = 0;
+    while !now.carriers().is_empty() && failures < 6 {
+        let out = now.carriers();
+        let carrier = out[random.below(out.len())];
+        match wandering(random, &now, carrier) {
+            Some(route) => {
+                sheet.push(carrier as u16);
+                sheet.push(route.len() as u16);
+                sheet.extend(route.iter().map(|&w| w as u16));
+                now = now.without(carrier);
+                failures = 0;
+            }
+            None => failures += 1,
+        }
+    }
+    sheet
+}
+
+pub fn claim(list: &[u32]) -> Vec<u16> {
+    std::iter::once(1).chain(list.iter().map(|&c| c as u16)).collect()
+}
+
+/// A sheet with a few words changed, taken out, repeated or added.
+pub fn spoilt(random: &mut Random, sheet: &[u16]) -> Vec<u16> {
+    let mut words = sheet.to_vec();
+    for _ in 0..1 + random.below(2) {
+        let at = random.below(words.len() + 1);
+        match random.below(5) {
+            0 if at < words.len() => {
+                words.remove(at);
+            }
+            1 => words.insert(at, random.below(200) as u16),
+            2 if at < words.len() => words[at] = words[at].wrapping_add(256),
+            3 => words.truncate(at),
+            _ if at < words.len() => words[at] = if random.once_in(8) { random.next() as u16 } else { random.below(12) as u16 },
+            _ => {}
+        }
+    }
+    words
+}
+
+pub fn noise(random: &mut Random) -> Vec<u16> {
+    (0..random.below(12)).map(|_| if random.once_in(3) { random.next() as u16 } else { random.below(10) as u16 }).collect()
+}

@@ -1,0 +1,56 @@
+//! A safe Rust wrapper of the proved library: the key of a board, its collapse, and the mark of a sheet.
+//!
+//! ```
+//! // Board K of document 01: two points, two zones, carrier 7 in zone 0.
+//! let board = [0x00, 0x0C, 1, 2, 0, 2, 0, 1, 7, 0, 0, 1, 0, 0];
+//! let mut plan = [0u16; 6];
+//! let mut list = [0u8; 1];
+//! let key = nizkabel::key(&board, &mut plan, &mut list);
+//! assert_eq!((key.verdict, key.words, key.length), (0, 4, 0));
+//! assert_eq!(plan[..4], [7, 2, 0, 3]);
+//! assert_eq!(nizkabel::mark(&board, &[0, 7, 2, 0, 3]), 0);
+//! ```
+
+/// What the key gives: the verdict, the words written to the plan, the numbers written to the list.
+#[derive(Clone, Copy, Debug, PartialEq, Eq)]
+pub struct Key {
+    pub verdict: u32,
+    pub words: usize,
+    pub length: usize,
+}
+
+/// What the collapse gives: its number, and the numbers written to the list.
+#[derive(Clone, Copy, Debug, PartialEq, Eq)]
+pub struct Collapse {
+    pub number: u32,
+    pub count: usize,
+}
+
+// Declared as in include/nizkabel.h.
+extern "C" {
+    fn nizkabel_key(board: *const u8, board_len: usize, plan: *mut u16, plan_len: usize, list: *mut u8, list_len: usize, out: *mut u32) -> u32;
+    fn nizkabel_collapse(board: *const u8, board_len: usize, list: *mut u8, list_len: usize, out: *mut u32) -> u32;
+    fn nizkabel_mark(board: *const u8, board_len: usize, sheet: *const u16, sheet_len: usize) -> u32;
+}
+
+/// Draws the key. Past what is written, plan and list stay as they were.
+pub fn key(board: &[u8], plan: &mut [u16], list: &mut [u8]) -> Key {
+    let mut out = [0u32; 2];
+    // SAFETY: each pointer comes with the length of the slice that it points to, and out has two elements.
+    let verdict = unsafe { nizkabel_key(board.as_ptr(), board.len(), plan.as_mut_ptr(), plan.len(), list.as_mut_ptr(), list.len(), out.as_mut_ptr()) };
+    Key { verdict, words: out[0] as usize, length: out[1] as usize }
+}
+
+/// Collapses the board. Past what is written, the list stays as it was.
+pub fn collapse(board: &[u8], list: &mut [u8]) -> Collapse {
+    let mut out = [0u32; 1];
+    // SAFETY: as for key; out has one element.
+    let number = unsafe { nizkabel_collapse(board.as_ptr(), board.len(), list.as_mut_ptr(), list.len(), out.as_mut_ptr()) };
+    Collapse { number, count: out[0] as usize }
+}
+
+/// Marks a sheet.
+pub fn mark(board: &[u8], sheet: &[u16]) -> u32 {
+    // SAFETY: as for key; nothing is written.
+    unsafe { nizkabel_mark(board.as_ptr(), board.len(), sheet.as_ptr(), sheet.len()) }
+}

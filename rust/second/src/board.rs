@@ -1,0 +1,137 @@
+//! The board in bytes, rows 1 to 9.
+
+#[derive(Clone, Debug, PartialEq, Eq)]
+pub struct Zone {
+    pub a: usize,
+    pub b: usize,
+    pub carrier: u32,
+    pub heading: u32,
+}
+
+#[derive(Clone, Debug, PartialEq, Eq)]
+pub struct Board {
+    pub points: usize,
+    pub home: usize,
+    pub zones: Vec<Zone>,
+}
+
+impl Board {
+    /// The point where a word, 2 × zone + heading, starts.
+    pub fn start(&self, word: usize) -> usize {
+        let zone = &self.zones[word / 2];
+        if word % 2 == 0 { zone.a } else { zone.b }
+    }
+
+    /// The point where a word leaves.
+    pub fn leave(&self, word: usize) -> usize {
+        self.start(word ^ 1)
+    }
+
+    pub fn words(&self) -> usize {
+        2 * self.zones.len()
+    }
+
+    /// The carriers out, ascending.
+    pub fn carriers(&self) -> Vec<u32> {
+        let mut out: Vec<u32> = self.zones.iter().map(|z| z.carrier).filter(|&c| c != 0).collect();
+        out.sort_unstable();
+        out
+    }
+
+    /// The word where a carrier stands.
+    pub fn standing(&self, carrier: u32) -> Option<usize> {
+        if carrier == 0 {
+            return None;
+        }
+        let zone = self.zones.iter().position(|z| z.carrier == carrier)?;
+        Some(2 * zone + self.zones[zone].heading as usize)
+    }
+
+    /// The board once a carrier has gone home.
+    pub fn without(&self, carrier: u32) -> Board {
+        let mut next = self.clone();
+        for zone in next.zones.iter_mut().filter(|z| z.carrier == carrier) {
+            zone.carrier = 0;
+            zone.heading = 0;
+        }
+        next
+    }
+
+    /// Whether a carrier on word w may go on by word v.
+    pub fn may_follow(&self, carrier: u32, w: usize, v: usize) -> bool {
+        let held = self.zones[v / 2].carrier;
+        self.start(v) == self.leave(w) && v / 2 != w / 2 && (held == 0 || held == carrier)
+    }
+
+    pub fn bytes(&self) -> Vec<u8> {
+        let said = 4 + 4 * self.zones.len();
+        let mut out = vec![(said / 256) as u8, (said % 256) as u8, 1, self.points as u8, self.home as u8, self.zones.len() as u8];
+        for z in &self.zones {
+            out.extend([z.a as u8, z.b as u8, z.carrier as u8, z.heading as u8]);
+        }
+        out
+    }
+}
+
+/// The board, or the number of the first row that holds.
+pub fn read(bytes: &[u8]) -> Result<Board, u32> {
+    if bytes.len() < 6 {
+        return Err(1);
+    }
+    let said = bytes[0] as usize * 256 + bytes[1] as usize;
+    if said != bytes.len() - 2 {
+        return Err(2);
+    }
+    if bytes[2] != 1 {
+        return Err(3);
+    }
+    let (points, home, count) = (bytes[3] as usize, bytes[4] as usize, bytes[5] as usize);
+    if !(2..=64).contains(&points) || home >= points || !(2..=96).contains(&count) {
+        return Err(4);
+    }
+    if said != 4 + 4 * count {
+        return Err(5);
+    }
+    let zones: Vec<Zone> = bytes[6..]
+        .chunks(4)
+        .map(|z| Zone { a: z[0] as usize, b: z[1] as usize, carrier: z[2] as u32, heading: z[3] as u32 })
+        .collect();
+    let bad = |z: &Zone| z.a >= points || z.b >= points || z.a == z.b || z.heading > 1 || (z.carrier == 0 && z.heading == 1);
+    if zones.iter().any(bad) {
+        return Err(6);
+    }
+    let mut held: Vec<u32> = zones.iter().map(|z| z.carrier).filter(|&c| c != 0).collect();
+    held.sort_unstable();
+    if held.windows(2).any(|pair| pair[0] == pair[1]) {
+        return Err(7);
+    }
+    let degree = |p: usize| zones.iter().filter(|z| z.a == p || z.b == p).count();
+    if (0..points).any(|p| p != home && degree(p) < 2) {
+        return Err(8);
+    }
+    if !hang_together(points, &zones) {
+        return Err(9);
+    }
+    Ok(Board { points, home, zones })
+}
+
+/// Whether the transitive closure of "joined by a zone" has every pair.
+fn hang_together(points: usize, zones: &[Zone]) -> bool {
+    let mut linked = vec![vec![false; points]; points];
+    for z in zones {
+        linked[z.a][z.b] = true;
+        linked[z.b][z.a] = true;
+    }
+    for via in 0..points {
+        for p in 0..points {
+            if linked[p][via] {
+                for q in 0..points {
+                    if linked[via][q] {
+                        linked[p][q] = true;
+                    }
+                }
+            }
+        }
+    }
+    (0..points).all(|p| (0..points).all(|q| p == q || linked[p][q]))
+}

@@ -1,0 +1,88 @@
+//! The key by distances: for each carrier the number of words that it still needs from each word, by a backward fixpoint.
+
+use crate::board::{read, Board};
+
+#[derive(Clone, Debug, PartialEq, Eq)]
+pub struct Key {
+    pub verdict: u32,
+    pub plan: Vec<u16>,
+    pub list: Vec<u32>,
+}
+
+/// How many words after each word bring the carrier home, at least; none where no number does.
+fn distances(board: &Board, carrier: u32) -> Vec<Option<usize>> {
+    let mut far: Vec<Option<usize>> = (0..board.words()).map(|w| (board.leave(w) == board.home).then_some(0)).collect();
+    loop {
+        let mut changed = false;
+        for w in 0..board.words() {
+            let best = (0..board.words()).filter(|&v| board.may_follow(carrier, w, v)).filter_map(|v| far[v]).min().map(|d| d + 1);
+            if let Some(d) = best {
+                if far[w].map_or(true, |old| d < old) {
+                    far[w] = Some(d);
+                    changed = true;
+                }
+            }
+        }
+        if !changed {
+            return far;
+        }
+    }
+}
+
+/// The route with the fewest words, smallest at the first difference.
+pub(crate) fn least_route(board: &Board, carrier: u32) -> Option<Vec<usize>> {
+    let mut word = board.standing(carrier)?;
+    let far = distances(board, carrier);
+    let mut left = far[word]?;
+    let mut route = vec![word];
+    while left > 0 {
+        left -= 1;
+        word = (0..board.words()).find(|&v| board.may_follow(carrier, word, v) && far[v] == Some(left))?;
+        route.push(word);
+    }
+    Some(route)
+}
+
+pub(crate) fn plan_with(board: &Board, least: impl Fn(&Board, u32) -> Option<Vec<usize>>) -> (Vec<u16>, Board) {
+    let mut now = board.clone();
+    let mut plan = Vec::new();
+    while let Some((carrier, route)) = now.carriers().into_iter().find_map(|c| least(&now, c).map(|r| (c, r))) {
+        plan.push(carrier as u16);
+        plan.push(route.len() as u16);
+        plan.extend(route.iter().map(|&w| w as u16));
+        now = now.without(carrier);
+    }
+    (plan, now)
+}
+
+pub(crate) fn verdict(list: &[u32]) -> u32 {
+    match list.len() {
+        0 => 0,
+        1 => 21,
+        _ => 20,
+    }
+}
+
+/// The carriers that the key names.
+pub fn named(board: &Board) -> Vec<u32> {
+    plan_with(board, least_route).1.carriers()
+}
+
+/// The key of a board in bytes with this room lent.
+pub fn key(bytes: &[u8], plan_room: usize, list_room: usize) -> Key {
+    let refused = |verdict| Key { verdict, plan: Vec::new(), list: Vec::new() };
+    let board = match read(bytes) {
+        Err(number) => return refused(number),
+        Ok(board) => board,
+    };
+    let out = board.carriers().len();
+    if plan_room < out * (2 + 2 * board.zones.len()) {
+        return refused(10);
+    }
+    if list_room < out {
+        return refused(11);
+    }
+    let (plan, last) = plan_with(&board, least_route);
+    let list = last.carriers();
+    Key { verdict: verdict(&list), plan, list }
+}

@@ -1,0 +1,14 @@
+//! A second implementation of document 01, to compare the product with. It shares no algorithm with it: orders by permutation and
+//! routes by enumeration on small boards, distances by a backward fixpoint on large ones, cycles by deleting dead ends.
+
+mod board;
+mod collapse;
+mod key;
+mod small;
+mod sheet;
+
+pub use board::{read, Board, Zone};
+pub use collapse::{collapse, left};
+pub use key::{key, named, Key};
+pub use sheet::mark;
+pub use small::{all_positions_keep, key_by_enumeration, ordered_by_permutation, Outcome};

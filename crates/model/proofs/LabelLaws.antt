@@ -1,19 +1,19 @@
 -- Laws of labels: two points have one label after joins exactly when old labels and the joined zones tie them together.
 -- One law for one join; then by induction over the zones joined. Parts are those linked over zones that pass.
-use Prim.Native.Nat.{ℕ, zero, suc, _+_, _*_, _<_}
+use Prim.Native.Nat.{ℕ, _*_, _<_}
 use mathlib.Core.Path.{_≡_, refl, sym, _∙_, ap, subst}
-use mathlib.Core.Logic.{_⊎_, inl, inr, ⊎-elim}
-use mathlib.Core.List.{List, [], _∷_, map, List·Memᴰ, List·Memᴰ·head, List·Memᴰ·tail, List·Memᴰ·not-nil, List·Memᴰ·cases-cons}
+use mathlib.Core.Logic.{_⊎_, inl, inr}
+use mathlib.Core.List.{List, [], _∷_, List·Memᴰ, List·Memᴰ·head, List·Memᴰ·tail, List·Memᴰ·not-nil, List·Memᴰ·cases-cons}
 use mathlib.Core.Bool.{Bool, true, false, cond}
 use native.Mathlib.Omega.{arith}
-use lib.ListN.{length, getD, length-map}
+use lib.ListN.{length, length-map}
 use lib.Dec.{eqb}
-use borrow.Author.Tests.{eqb-true, eqb-false, eq-eqb, ne-eqb}
+use borrow.Author.Tests.{eqb-true, eqb-false, ne-eqb}
 use Rattle.model.specs.Lists.{below, keep, foldLeft}
-use Rattle.model.specs.Track.{Track, zoneOf, headingOf, rev, start, leave, Linked, here, over}
+use Rattle.model.specs.Track.{Track, zoneOf, rev, start, leave, Linked, here, over}
 use Rattle.model.specs.Labels.{label, join, joinZone, joinZones, parts}
-use Rattle.model.proofs.ListLaws.{decided, getD-map, getD-below, length-below, mem-below, below-mem, mem-keep, keep-mem, foldLeft-append}
-use Rattle.model.proofs.PositionLaws.{rev-below, rev-rev, zone-below, word-parts, same-zone, zone-word, linked-trans, linked-sym, linked-same, linked-word, linked-below}
+use Rattle.model.proofs.ListLaws.{decided, getD-map, getD-below, length-below, mem-below, below-mem, mem-keep, keep-mem}
+use Rattle.model.proofs.PositionLaws.{rev-below, leave-rev, zone-below, same-zone, linked-trans, linked-sym, linked-same, linked-word}
 
 -- one join
 
@@ -100,32 +100,50 @@ module _ (t : Track) where
   length-joins ls (z ∷ zs) = length-joins (joinZone t ls z) zs ∙ length-join ls (start t (2 * z)) (leave t (2 * z))
 
   module _ (ls : List ℕ) (z : ℕ) (zs : List ℕ) (i : EndsIn (z ∷ zs) (length ls)) where
-    first-in : (start t (2 * z) < length ls) × (leave t (2 * z) < length ls)
-    first-in = i z (List·Memᴰ·head refl)
+    abbrev end-a : ℕ
+    end-a = start t (2 * z)
 
-    to-start : (r : ℕ) → r < length ls → InJoin ls (start t (2 * z)) (leave t (2 * z)) r → Tied t ls (z ∷ zs) r (start t (2 * z))
-    to-start r h (inl e) = alike h (first-in .0) e
-    to-start r h (inr e) = onward (alike h (first-in .1) e) (back (ends z (List·Memᴰ·head refl)))
+    abbrev end-b : ℕ
+    end-b = leave t (2 * z)
 
-    shorter : (r : ℕ) → r < length (joinZone t ls z) → r < length ls
-    shorter r h = subst (λ (n : ℕ). r < n) (length-join ls (start t (2 * z)) (leave t (2 * z))) h
+    a-in : end-a < length ls
+    a-in = i z (List·Memᴰ·head refl) .0
 
-    longer : (r : ℕ) → r < length ls → r < length (joinZone t ls z)
-    longer r h = subst (λ (n : ℕ). r < n) (sym (length-join ls (start t (2 * z)) (leave t (2 * z)))) h
+    b-in : end-b < length ls
+    b-in = i z (List·Memᴰ·head refl) .1
 
-    untie : {r s : ℕ} → Tied t (joinZone t ls z) zs r s → Tied t ls (z ∷ zs) r s
-    untie = tied-least (Tied t ls (z ∷ zs)) (λ r s h k e. go r s (shorter r h) (shorter s k) (join-same ls (start t (2 * z)) (leave t (2 * z)) r s (shorter r h) (shorter s k) e)) (λ y m. ends y (List·Memᴰ·tail m)) (λ _ _ x. back x) (λ _ _ _ x y. onward x y)
+    to-start : (r : ℕ) → r < length ls → InJoin ls end-a end-b r → Tied t ls (z ∷ zs) r end-a
+    to-start r h (inl e) = alike h a-in e
+    to-start r h (inr e) = onward (alike h b-in e) (back (ends z (List·Memᴰ·head refl)))
+
+    shorter : (r : ℕ) → r < length (join ls end-a end-b) → r < length ls
+    shorter r h = subst (λ (n : ℕ). r < n) (length-join ls end-a end-b) h
+
+    longer : (r : ℕ) → r < length ls → r < length (join ls end-a end-b)
+    longer r h = subst (λ (n : ℕ). r < n) (sym (length-join ls end-a end-b)) h
+
+    untie : {r s : ℕ} → Tied t (join ls end-a end-b) zs r s → Tied t ls (z ∷ zs) r s
+    untie = tied-least (Tied t ls (z ∷ zs)) same (λ y m. ends y (List·Memᴰ·tail m)) (λ _ _ x. back x) (λ _ _ _ x y. onward x y)
       where
-        go : (r s : ℕ) → r < length ls → s < length ls → (label ls r ≡ label ls s) ⊎ (InJoin ls (start t (2 * z)) (leave t (2 * z)) r × InJoin ls (start t (2 * z)) (leave t (2 * z)) s) → Tied t ls (z ∷ zs) r s
+        go : (r s : ℕ) → r < length ls → s < length ls → (label ls r ≡ label ls s) ⊎ (InJoin ls end-a end-b r × InJoin ls end-a end-b s) → Tied t ls (z ∷ zs) r s
         go r s h k (inl e) = alike h k e
         go r s h k (inr j) = onward (to-start r h (j .0)) (back (to-start s k (j .1)))
 
-    tie : {r s : ℕ} → Tied t ls (z ∷ zs) r s → Tied t (joinZone t ls z) zs r s
-    tie = tied-least (Tied t (joinZone t ls z) zs) (λ r s h k e. alike (longer r h) (longer s k) (same-join ls (start t (2 * z)) (leave t (2 * z)) r s h k (inl e))) (λ y m. go y (List·Memᴰ·cases-cons m)) (λ _ _ x. back x) (λ _ _ _ x y. onward x y)
+        same : (r s : ℕ) → r < length (join ls end-a end-b) → s < length (join ls end-a end-b) → label (join ls end-a end-b) r ≡ label (join ls end-a end-b) s → Tied t ls (z ∷ zs) r s
+        same r s h k e = go r s (shorter r h) (shorter s k) (join-same ls end-a end-b r s (shorter r h) (shorter s k) e)
+
+    tie : {r s : ℕ} → Tied t ls (z ∷ zs) r s → Tied t (join ls end-a end-b) zs r s
+    tie = tied-least (Tied t (join ls end-a end-b) zs) same (λ y m. zone y (List·Memᴰ·cases-cons m)) (λ _ _ x. back x) (λ _ _ _ x y. onward x y)
       where
-        go : (y : ℕ) → (y ≡ z) ⊎ List·Memᴰ y zs → Tied t (joinZone t ls z) zs (start t (2 * y)) (leave t (2 * y))
-        go y (inl e) = subst (λ (x : ℕ). Tied t (joinZone t ls z) zs (start t (2 * x)) (leave t (2 * x))) (sym e) (alike (longer (start t (2 * z)) (first-in .0)) (longer (leave t (2 * z)) (first-in .1)) (same-join ls (start t (2 * z)) (leave t (2 * z)) (start t (2 * z)) (leave t (2 * z)) (first-in .0) (first-in .1) (inr (inl refl, inr refl))))
-        go y (inr m) = ends y m
+        same : (r s : ℕ) → r < length ls → s < length ls → label ls r ≡ label ls s → Tied t (join ls end-a end-b) zs r s
+        same r s h k e = alike (longer r h) (longer s k) (same-join ls end-a end-b r s h k (inl e))
+
+        joined : Tied t (join ls end-a end-b) zs end-a end-b
+        joined = alike (longer end-a a-in) (longer end-b b-in) (same-join ls end-a end-b end-a end-b a-in b-in (inr (inl refl, inr refl)))
+
+        zone : (y : ℕ) → (y ≡ z) ⊎ List·Memᴰ y zs → Tied t (join ls end-a end-b) zs (start t (2 * y)) (leave t (2 * y))
+        zone y (inl e) = subst (λ (x : ℕ). Tied t (join ls end-a end-b) zs (start t (2 * x)) (leave t (2 * x))) (sym e) joined
+        zone y (inr m) = ends y m
 
   tied-none : (ls : List ℕ) {r s : ℕ} → Tied t ls [] r s → label ls r ≡ label ls s
   tied-none ls = tied-least (λ r s. label ls r ≡ label ls s) (λ _ _ _ _ e. e) (λ z m. absurd (List·Memᴰ·not-nil m)) (λ _ _ a. sym a) (λ _ _ _ a b. a ∙ b)
@@ -181,16 +199,26 @@ module _ (t : Track) where
             let q : zoneOf (2 * z) ≡ z = omega arith in
             linked-word t (2 * z) (omega arith) (ap passes q ∙ k .1)
 
-    linked-tied : (passes : ℕ → Bool) {r s : ℕ} → r < t .points → Linked t (λ z. passes z ≡ true) r s → Tied t (below (t .points)) (passing passes) r s
-    linked-tied passes {r} h here = let k : r < length (below (t .points)) = rw length-below h in alike k k refl
-    linked-tied passes {r} {s} h (over w b f e l) = onward (subst (λ (x : ℕ). Tied t (below (t .points)) (passing passes) x (leave t w)) e (go (same-zone w (2 * zoneOf w) (omega arith)))) (linked-tied passes (inside (rev w) (rev-below (t .zones) w b)) l)
+    -- what is tied over the zones that pass, each point a part alone before
+    abbrev TiedOver : (ℕ → Bool) → ℕ → ℕ → Type 0
+    TiedOver passes = Tied t (below (t .points)) (passing passes)
+
+    word-tied : (passes : ℕ → Bool) (w : ℕ) → w < 2 * t .zones → passes (zoneOf w) ≡ true → TiedOver passes (start t w) (leave t w)
+    word-tied passes w b f = go (same-zone w (2 * zoneOf w) (omega arith))
       where
-        across : Tied t (below (t .points)) (passing passes) (start t (2 * zoneOf w)) (leave t (2 * zoneOf w))
+        across : TiedOver passes (start t (2 * zoneOf w)) (leave t (2 * zoneOf w))
         across = ends (zoneOf w) (keep-mem passes (below-mem (t .zones) (zoneOf w) (zone-below (t .zones) w b)) f)
 
-        go : (w ≡ 2 * zoneOf w) ⊎ (w ≡ rev (2 * zoneOf w)) → Tied t (below (t .points)) (passing passes) (start t w) (leave t w)
-        go (inl q) = subst (λ (x : ℕ). Tied t (below (t .points)) (passing passes) (start t x) (leave t x)) (sym q) across
-        go (inr q) = subst (λ (x : ℕ). Tied t (below (t .points)) (passing passes) (start t x) (leave t x)) (sym q) (subst (λ (x : ℕ). Tied t (below (t .points)) (passing passes) (leave t (2 * zoneOf w)) (start t x)) (sym (rev-rev (2 * zoneOf w))) (back across))
+        other : TiedOver passes (leave t (2 * zoneOf w)) (leave t (rev (2 * zoneOf w)))
+        other = subst (TiedOver passes (leave t (2 * zoneOf w))) (sym (leave-rev t (2 * zoneOf w))) (back across)
+
+        go : (w ≡ 2 * zoneOf w) ⊎ (w ≡ rev (2 * zoneOf w)) → TiedOver passes (start t w) (leave t w)
+        go (inl q) = subst (λ (x : ℕ). TiedOver passes (start t x) (leave t x)) (sym q) across
+        go (inr q) = subst (λ (x : ℕ). TiedOver passes (start t x) (leave t x)) (sym q) other
+
+    linked-tied : (passes : ℕ → Bool) {r s : ℕ} → r < t .points → Linked t (λ z. passes z ≡ true) r s → TiedOver passes r s
+    linked-tied passes {r} h here = let k : r < length (below (t .points)) = rw length-below h in alike k k refl
+    linked-tied passes h (over w b f e l) = onward (subst (λ (x : ℕ). TiedOver passes x (leave t w)) e (word-tied passes w b f)) (linked-tied passes (inside (rev w) (rev-below (t .zones) w b)) l)
 
     -- points have one label exactly when they are linked over zones that pass
     pub parts-linked : (passes : ℕ → Bool) (p q : ℕ) → p < t .points → q < t .points → label (parts t passes) p ≡ label (parts t passes) q → Linked t (λ z. passes z ≡ true) p q

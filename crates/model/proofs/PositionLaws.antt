@@ -1,21 +1,21 @@
 -- Laws of words and positions: the two ways of a zone, what is left when carriers are taken off, who is out, and single moves.
 -- Words go by linear arithmetic; positions by what stands in each zone.
-use Prim.Native.Nat.{ℕ, zero, suc, _+_, _-_, _*_, _/_, _%_, _≤_, _<_}
+use Prim.Native.Nat.{ℕ, suc, _+_, _-_, _*_, _<_}
 use mathlib.Core.Path.{_≡_, refl, sym, _∙_, ap, ap₂, subst}
 use mathlib.Core.Logic.{_⊎_, inl, inr, ⊎-elim}
-use mathlib.Core.List.{List, [], _∷_, map, List·Memᴰ, List·Memᴰ·head, List·Memᴰ·tail, List·Memᴰ·cases-cons, Memᴰ·cast, Memᴰ·map, Memᴰ·of-map}
-use mathlib.Core.Bool.{Bool, true, false, not, cond, true≢false, false≢true, _&&_, _||_}
+use mathlib.Core.List.{List, [], _∷_, map, List·Memᴰ, Memᴰ·cast, Memᴰ·map, Memᴰ·of-map}
+use mathlib.Core.Bool.{Bool, true, false, not, cond, _||_}
 use native.Mathlib.Nat.{suc-inj}
 use native.Mathlib.Omega.{arith}
 use lib.ListN.{length, getD, set, length-map, length-set, List·getD-map}
-use lib.Seq.{getD-set-same, getD-set-other, ext-getD}
-use lib.Dec.{leb, eqb}
+use lib.Seq.{getD-set-same, getD-set-other}
+use lib.Dec.{eqb}
 use borrow.Author.Tests.{eqb-true, eqb-false, ne-eqb, not-true}
-use Rattle.model.specs.Lists.{below, consIf, keep, any, ascending, Ascending}
+use Rattle.model.specs.Lists.{consIf, keep, any, Ascending}
 use Rattle.model.specs.Track.{Track, zoneOf, headingOf, rev, start, leave, Linked, here, over}
 use Rattle.model.specs.Position.{Position, at, carrierOf, isFree, Stands, Out, Once, without, retire, outs}
 use Rattle.model.specs.Accepted.{Laid}
-use Rattle.model.proofs.ListLaws.{decided, both-ways, mem-keep, keep-mem, mem-ascending, ascending-mem, ascending-strict, ascending-unique, ascending-no-repeats, keep-ascending, keep-one-fewer, NoRepeats, any-true, any-false, true-any, mem-getD, getD-mem, map-ext}
+use Rattle.model.proofs.ListLaws.{decided, mem-keep, keep-mem, mem-ascending, ascending-mem, ascending-strict, ascending-unique, ascending-no-repeats, keep-ascending, keep-one-fewer, NoRepeats, any-true, any-false, mem-getD, getD-mem, map-ext}
 
 -- words
 
@@ -191,11 +191,13 @@ without-swap f g p = without-without f g p ∙ without-ext (λ c. g c || f c) (�
 
 -- what stands in a held zone
 pub held-stands : (p : Position) (z : ℕ) → z < length p → (carrierOf (at p z) ≡ 0 → ⊥) → Stands p (carrierOf (at p z)) (2 * z + headingOf (at p z))
-held-stands p z h n = record {
-  numbered = n;
-  inside = subst (λ (k : ℕ). k < length p) (sym (zone-word z (headingOf (at p z)) (heading-small (at p z)))) h;
-  holds = ap (at p) (zone-word z (headingOf (at p z)) (heading-small (at p z))) ∙ sym (word-parts (at p z)) ∙ ap (λ (k : ℕ). 2 * carrierOf (at p z) + k) (sym (heading-word z (headingOf (at p z)) (heading-small (at p z))));
-}
+held-stands p z h n = record { numbered = n; inside = subst (λ (k : ℕ). k < length p) (sym zone) h; holds = ap (at p) zone ∙ parts }
+  where
+    zone : zoneOf (2 * z + headingOf (at p z)) ≡ z
+    zone = omega arith
+
+    parts : at p z ≡ 2 * carrierOf (at p z) + headingOf (2 * z + headingOf (at p z))
+    parts = omega arith
 
 module _ (t : Track) (p : Position) (l : Laid t p) where
   -- a zone that holds a number holds a carrier
@@ -242,11 +244,13 @@ abbrev Apart : Position → Type 0
 Apart p = (i j : ℕ) → i < length p → j < length p → (carrierOf (at p i) ≡ 0 → ⊥) → carrierOf (at p i) ≡ carrierOf (at p j) → i ≡ j
 
 once-apart : (p : Position) → Once p → Apart p
-once-apart p o i j h k n e =
-    let r : Stands p (carrierOf (at p i)) (2 * i + headingOf (at p i)) = held-stands p i h n in
-    let s : Stands p (carrierOf (at p j)) (2 * j + headingOf (at p j)) = held-stands p j k (λ q. n (e ∙ q)) in
-    let q : 2 * i + headingOf (at p i) ≡ 2 * j + headingOf (at p j) = o (carrierOf (at p i)) (2 * i + headingOf (at p i)) (2 * j + headingOf (at p j)) r (subst (λ (c : ℕ). Stands p c (2 * j + headingOf (at p j))) (sym e) s) in
-    omega (arith, heading-small (at p i), heading-small (at p j))
+once-apart p o i j h k n e = omega (arith, same, heading-small (at p i), heading-small (at p j))
+  where
+    other : Stands p (carrierOf (at p i)) (2 * j + headingOf (at p j))
+    other = subst (λ (c : ℕ). Stands p c (2 * j + headingOf (at p j))) (sym e) (held-stands p j k (λ q. n (e ∙ q)))
+
+    same : 2 * i + headingOf (at p i) ≡ 2 * j + headingOf (at p j)
+    same = o (carrierOf (at p i)) (2 * i + headingOf (at p i)) (2 * j + headingOf (at p j)) (held-stands p i h n) other
 
 apart-no-repeats : (p : Position) → Apart p → NoRepeats (keep (λ c. not (eqb c 0)) (map carrierOf p))
 apart-no-repeats [] a = tt
@@ -331,69 +335,71 @@ module _ (t : Track) (p : Position) (l : Laid t p) where
 
 -- single moves: carrier c goes from its standing u into the free zone of word w
 
-module _ (t : Track) (p : Position) (l : Laid t p) (c u w : ℕ) (s : Stands p c u) (free : at p (zoneOf w) ≡ 0) (word : w < 2 * t .zones) where
-  abbrev pub movedTo : Position
-  movedTo = set (retire c p) (zoneOf w) (2 * c + headingOf w)
+abbrev pub movedTo : Position → ℕ → ℕ → Position
+movedTo p c w = set (retire c p) (zoneOf w) (2 * c + headingOf w)
 
-  pub length-moved : length movedTo ≡ length p
+module _ (t : Track) (p : Position) (l : Laid t p) (c u w : ℕ) (s : Stands p c u) (free : at p (zoneOf w) ≡ 0) (word : w < 2 * t .zones) where
+  pub length-moved : length (movedTo p c w) ≡ length p
   length-moved = length-set (retire c p) (zoneOf w) (2 * c + headingOf w) ∙ length-without (eqb c) p
 
   target-inside : zoneOf w < length (retire c p)
   target-inside = subst (λ (k : ℕ). zoneOf w < k) (sym (length-without (eqb c) p ∙ l .each)) (zone-below (t .zones) w word)
 
-  pub at-moved-here : at movedTo (zoneOf w) ≡ 2 * c + headingOf w
+  pub at-moved-here : at (movedTo p c w) (zoneOf w) ≡ 2 * c + headingOf w
   at-moved-here = getD-set-same (retire c p) (zoneOf w) (2 * c + headingOf w) 0 target-inside
 
-  pub at-moved-other : (z : ℕ) → (z ≡ zoneOf w → ⊥) → at movedTo z ≡ at (retire c p) z
+  pub at-moved-other : (z : ℕ) → (z ≡ zoneOf w → ⊥) → at (movedTo p c w) z ≡ at (retire c p) z
   at-moved-other z n = getD-set-other (retire c p) (zoneOf w) z (2 * c + headingOf w) 0 n
 
-  pub moved-stands : Stands movedTo c w
+  pub moved-stands : Stands (movedTo p c w) c w
   moved-stands = record {
     numbered = s .numbered;
     inside = subst (λ (k : ℕ). zoneOf w < k) (sym (length-set (retire c p) (zoneOf w) (2 * c + headingOf w))) target-inside;
     holds = at-moved-here;
   }
 
+  -- what stands in another zone than w's stood there when c was taken off
+  moved-elsewhere : {d v : ℕ} → Stands (movedTo p c w) d v → (zoneOf v ≡ zoneOf w → ⊥) → Stands (retire c p) d v
+  moved-elsewhere {d} {v} r n = record {
+    numbered = r .numbered;
+    inside = subst (λ (k : ℕ). zoneOf v < k) (length-moved ∙ sym (length-without (eqb c) p)) (r .inside);
+    holds = sym (at-moved-other (zoneOf v) n) ∙ r .holds;
+  }
+
   -- any other carrier stands where it stood
-  pub moved-other : {d v : ℕ} → (c ≡ d → ⊥) → Stands p d v → Stands movedTo d v
+  pub moved-other : {d v : ℕ} → (c ≡ d → ⊥) → Stands p d v → Stands (movedTo p c w) d v
   moved-other {d} {v} n r = record {
     numbered = r .numbered;
     inside = subst (λ (k : ℕ). zoneOf v < k) (sym length-moved) (r .inside);
     holds = at-moved-other (zoneOf v) (λ e. stands-held r (ap (at p) e ∙ free)) ∙ retire-stands c r n .holds;
   }
 
-  pub other-moved : {d v : ℕ} → (c ≡ d → ⊥) → Stands movedTo d v → Stands p d v
-  other-moved {d} {v} n r = stands-retire c p (record { numbered = r .numbered; inside = subst (λ (k : ℕ). zoneOf v < k) (length-moved ∙ sym (length-without (eqb c) p)) (r .inside); holds = sym (at-moved-other (zoneOf v) elsewhere) ∙ r .holds }) .0
-    where
-      elsewhere : zoneOf v ≡ zoneOf w → ⊥
-      elsewhere e = n (stands-same moved-stands r (sym e) .0)
+  pub other-moved : {d v : ℕ} → (c ≡ d → ⊥) → Stands (movedTo p c w) d v → Stands p d v
+  other-moved {d} {v} n r = stands-retire c p (moved-elsewhere r (λ e. n (stands-same moved-stands r (sym e) .0))) .0
 
   -- carrier c stands in the word alone
-  pub moved-here : {v : ℕ} → Stands movedTo c v → v ≡ w
+  pub moved-here : {v : ℕ} → Stands (movedTo p c w) c v → v ≡ w
   moved-here {v} r = go (decided (eqb (zoneOf v) (zoneOf w)))
     where
       go : (eqb (zoneOf v) (zoneOf w) ≡ true) ⊎ (eqb (zoneOf v) (zoneOf w) ≡ false) → v ≡ w
       go (inl e) = stands-same r moved-stands (eqb-true (zoneOf v) (zoneOf w) e) .1
-      go (inr e) = absurd (stands-retire c p old .1 refl)
-        where
-          old : Stands (retire c p) c v
-          old = record { numbered = r .numbered; inside = subst (λ (k : ℕ). zoneOf v < k) (length-moved ∙ sym (length-without (eqb c) p)) (r .inside); holds = sym (at-moved-other (zoneOf v) (eqb-false (zoneOf v) (zoneOf w) e)) ∙ r .holds }
+      go (inr e) = absurd (stands-retire c p (moved-elsewhere r (eqb-false (zoneOf v) (zoneOf w) e)) .1 refl)
 
-  moved-once : Once movedTo
+  moved-once : Once (movedTo p c w)
   moved-once d v x r q = go (decided (eqb c d))
     where
       go : (eqb c d ≡ true) ⊎ (eqb c d ≡ false) → v ≡ x
-      go (inl e) = let k : d ≡ c = sym (eqb-true c d e) in moved-here (subst (λ (y : ℕ). Stands movedTo y v) k r) ∙ sym (moved-here (subst (λ (y : ℕ). Stands movedTo y x) k q))
+      go (inl e) = let k : d ≡ c = sym (eqb-true c d e) in moved-here (subst (λ (y : ℕ). Stands (movedTo p c w) y v) k r) ∙ sym (moved-here (subst (λ (y : ℕ). Stands (movedTo p c w) y x) k q))
       go (inr e) = l .once d v x (other-moved (eqb-false c d e) r) (other-moved (eqb-false c d e) q)
 
-  moved-plain : (z : ℕ) → at movedTo z ≡ 1 → ⊥
+  moved-plain : (z : ℕ) → at (movedTo p c w) z ≡ 1 → ⊥
   moved-plain z e = go (decided (eqb z (zoneOf w)))
     where
       go : (eqb z (zoneOf w) ≡ true) ⊎ (eqb z (zoneOf w) ≡ false) → ⊥
-      go (inl q) = let h : 2 * c + headingOf w ≡ 1 = sym at-moved-here ∙ ap (at movedTo) (sym (eqb-true z (zoneOf w) q)) ∙ e in s .numbered (omega arith)
+      go (inl q) = let h : 2 * c + headingOf w ≡ 1 = sym at-moved-here ∙ ap (at (movedTo p c w)) (sym (eqb-true z (zoneOf w) q)) ∙ e in s .numbered (omega arith)
       go (inr q) = laid-retire t c p l .plain z (sym (at-moved-other z (eqb-false z (zoneOf w) q)) ∙ e)
 
-  pub moved-laid : Laid t movedTo
+  pub moved-laid : Laid t (movedTo p c w)
   moved-laid = record { each = length-moved ∙ l .each; once = moved-once; plain = moved-plain; inside = l .inside; home-in = l .home-in }
 
 -- links
@@ -408,7 +414,10 @@ module _ (t : Track) {passes : ℕ → Type 0} where
 
   pub linked-sym : {p q : ℕ} → Linked t passes p q → Linked t passes q p
   linked-sym here = here
-  linked-sym {p} (over w h f e l) = linked-trans (linked-sym l) (over (rev w) (rev-below (t .zones) w h) (subst passes (sym (zone-rev w)) f) refl (subst (λ (x : ℕ). Linked t passes x p) (sym (leave-rev t w ∙ e)) here))
+  linked-sym {p} (over w h f e l) = linked-trans (linked-sym l) (over (rev w) (rev-below (t .zones) w h) (subst passes (sym (zone-rev w)) f) refl end)
+    where
+      end : Linked t passes (leave t (rev w)) p
+      end = subst (λ (x : ℕ). Linked t passes x p) (sym (leave-rev t w ∙ e)) here
 
   pub linked-same : {p q : ℕ} → p ≡ q → Linked t passes p q
   linked-same {p} e = subst (Linked t passes p) e here

@@ -1,21 +1,21 @@
 -- A board that meets none of the refusals 1 to 9 is accepted: what each row's test says when it does not hold.
 -- The rows are taken apart from `refusal` one by one; each then gives its facts about the track and the position said.
-use Prim.Native.Nat.{ℕ, zero, suc, _+_, _*_, _/_, _%_, _≤_, _<_}
-use mathlib.Core.Path.{_≡_, refl, sym, _∙_, ap, ap₂, subst}
+use Prim.Native.Nat.{ℕ, _+_, _*_, _/_, _%_, _≤_, _<_}
+use mathlib.Core.Path.{_≡_, refl, sym, _∙_, ap}
 use mathlib.Core.Logic.{_⊎_, inl, inr, ⊎-elim}
-use mathlib.Core.List.{List, [], _∷_, map}
-use mathlib.Core.Bool.{Bool, true, false, cond, not, _&&_, _||_, true≢false, false≢true}
+use mathlib.Core.List.{List}
+use mathlib.Core.Bool.{Bool, true, false, cond, not, _&&_, _||_, true≢false}
 use native.Mathlib.Omega.{arith}
 use lib.ListN.{length, getD, length-map, List·getD-eq-default}
 use lib.Dec.{leb, ltb, eqb}
-use borrow.Author.Tests.{ltb-true, ltb-false, lt-ltb, leb-true, leb-false, eqb-true, eqb-false, eq-eqb, ne-eqb, not-false}
+use borrow.Author.Tests.{ltb-true, ltb-false, leb-true, eqb-true, eqb-false, eq-eqb, ne-eqb, not-false}
 use Rattle.model.specs.Lists.{below, any, all, count}
-use Rattle.model.specs.Track.{Track, zoneOf, headingOf, rev, start, leave, Linked}
-use Rattle.model.specs.Position.{Position, at, Stands, Once}
+use Rattle.model.specs.Track.{zoneOf, headingOf, rev, start}
+use Rattle.model.specs.Position.{at, Stands, Once}
 use Rattle.model.specs.Labels.{label, parts}
-use Rattle.model.specs.Reading.{byte, lengthSaid, pointsSaid, homeSaid, zonesSaid, endA, endB, carrierIn, headingIn, trackSaid, positionSaid, tooShort, wrongLength, wrongVersion, outOfRange, wrongCount, badZone, repeated, thin, apart, refusal}
+use Rattle.model.specs.Reading.{byte, pointsSaid, homeSaid, zonesSaid, endA, endB, carrierIn, headingIn, trackSaid, positionSaid, tooShort, wrongLength, wrongVersion, outOfRange, wrongCount, badZone, repeated, thin, apart, refusal}
 use Rattle.model.specs.Accepted.{Laid, Accepted, HangsTogether}
-use Rattle.model.proofs.ListLaws.{both-ways, not-true-false, decided, and-left, and-right, length-below, getD-map-below, any-below-false, below-any, all-below}
+use Rattle.model.proofs.ListLaws.{both-ways, decided, and-left, and-right, length-below, getD-map-below, any-below-false, below-any, all-below}
 use Rattle.model.proofs.PositionLaws.{zone-below, rev-below, linked-mono}
 use Rattle.model.proofs.LabelLaws.{parts-linked}
 
@@ -204,8 +204,14 @@ module _ (b : List ℕ) (n : NoRow b) where
   unfolding repeated
   carrier-once y z h k m e = true≢false (sym twice ∙ any-below-false (repeated b) (zonesSaid b) (n .repeats) z k)
     where
-      twice : (not (eqb (carrierIn b z) 0) && any (λ x. eqb (carrierIn b x) (carrierIn b z)) (below z)) ≡ true
-      twice = and-true (not (eqb (carrierIn b z) 0)) (any (λ x. eqb (carrierIn b x) (carrierIn b z)) (below z)) (ap not (ne-eqb (carrierIn b z) 0 m)) (below-any (λ x. eqb (carrierIn b x) (carrierIn b z)) z y h (eq-eqb (carrierIn b y) (carrierIn b z) e))
+      same : ℕ → Bool
+      same x = eqb (carrierIn b x) (carrierIn b z)
+
+      earlier : any same (below z) ≡ true
+      earlier = below-any same z y h (eq-eqb (carrierIn b y) (carrierIn b z) e)
+
+      twice : (not (eqb (carrierIn b z) 0) && any same (below z)) ≡ true
+      twice = and-true (not (eqb (carrierIn b z) 0)) (any same (below z)) (ap not (ne-eqb (carrierIn b z) 0 m)) earlier
 
   -- row 8
   pub not-thin : (p : ℕ) → p < pointsSaid b → (p ≡ homeSaid b → ⊥) → 2 ≤ count (eqb p) (trackSaid b .ends)
@@ -335,17 +341,23 @@ module _ (b : List ℕ) (n : NoRow b) where
           good-zone b n z h .plain (omega arith) (omega arith)
       go (inr h) = let q : at (positionSaid b) z ≡ 0 = at-past b z h in omega arith
 
-  pub laid : Laid (trackSaid b) (positionSaid b)
+  pub laid-said : Laid (trackSaid b) (positionSaid b)
   unfolding trackSaid
-  laid = record { each = length-position b; once = once-said; plain = plain-said; inside = start-in; home-in = in-range b n .home-in }
+  laid-said = record { each = length-position b; once = once-said; plain = plain-said; inside = start-in; home-in = in-range b n .home-in }
 
   -- row 9
   hangs-said : HangsTogether (trackSaid b)
   unfolding apart trackSaid
   hangs-said p q h k = linked-mono (trackSaid b) (λ z _ _. tt) (parts-linked (trackSaid b) start-in (λ z. true) p q h k (of-home p h ∙ sym (of-home q k)))
     where
-      of-home : (r : ℕ) → r < pointsSaid b → label (parts (trackSaid b) (λ z. true)) r ≡ label (parts (trackSaid b) (λ z. true)) (homeSaid b)
-      of-home r i = eqb-true (label (parts (trackSaid b) (λ z. true)) r) (label (parts (trackSaid b) (λ z. true)) (homeSaid b)) (all-below (λ x. eqb (label (parts (trackSaid b) (λ z. true)) x) (label (parts (trackSaid b) (λ z. true)) (homeSaid b))) (pointsSaid b) (not-false (all (λ x. eqb (label (parts (trackSaid b) (λ z. true)) x) (label (parts (trackSaid b) (λ z. true)) (homeSaid b))) (below (pointsSaid b))) (n .together)) r i)
+      ls : List ℕ
+      ls = parts (trackSaid b) (λ z. true)
+
+      like-home : ℕ → Bool
+      like-home r = eqb (label ls r) (label ls (homeSaid b))
+
+      of-home : (r : ℕ) → r < pointsSaid b → label ls r ≡ label ls (homeSaid b)
+      of-home r i = eqb-true (label ls r) (label ls (homeSaid b)) (all-below like-home (pointsSaid b) (not-false (all like-home (below (pointsSaid b))) (n .together)) r i)
 
   numbers-said : ((i : ℕ) → getD b i 0 < 256) → (z : ℕ) → at (positionSaid b) z < 512
   numbers-said bytes z = go (zone-inside z)
@@ -365,7 +377,7 @@ accepted b bytes e =
     let n : NoRow b = no-row b e in
     let r : InRange b = in-range b n in
     record {
-      laid = laid b n;
+      laid = laid-said b n;
       points-least = r .points-least;
       points-most = r .points-most;
       zones-least = r .zones-least;

@@ -1,0 +1,79 @@
+-- `points::grow` meets its contract. The loop's invariant: what is found is reached, and what a way leads to from a point that is not fresh is found.
+-- The measure is how many points are not yet grown from. Assumes nothing.
+use Prim.Native.Nat.{_+_, _-_}
+use native.Mathlib.Omega.{arith}
+use borrow.Author.Needs.{needs}
+use lib.Count.{ones}
+use Rattle.points.proofs.GrowLaws.{Growing, begins, turns, fewer, ends}
+use Rattle.points.proofs.WayLaws.{reach-inside}
+use Rattle.points.proofs.grow.Statement.{statement}
+use Rattle.points.proofs.grow.Tie as tie
+
+abbrev Inv-loop : tie.InvT-loop
+Inv-loop ways from found₀ fresh₀ found fresh = Growing ways from found fresh
+
+abbrev μ-loop : tie.MeasureT-loop
+μ-loop ways from found₀ fresh₀ found fresh = ones fresh + (64 - ones found)
+
+with-requires : tie.Need-with-requires Inv-loop μ-loop
+with-requires c κs = search needs
+
+loop-holds : tie.Need-loop-holds Inv-loop μ-loop
+loop-holds c = rw (c .with .ensures) (begins (omega arith))
+
+lowest-requires : tie.Need-lowest-requires Inv-loop μ-loop
+lowest-requires c κs = search needs
+
+mul-without : tie.Need-mul-without Inv-loop μ-loop
+mul-without c = omega arith
+
+shared-slice-read-without : tie.Need-shared-slice-read-without Inv-loop μ-loop
+shared-slice-read-without c =
+    let a = c .before .before .before .before .before .before in
+    let g = c .before .before .before .loop .inv in
+    let p = c .before .lowest .result in
+    reach-inside (a .pre .1) (a .pre .0) (g .sound p (g .within p (c .before .lowest .ensures .there)))
+
+without-requires : tie.Need-without-requires Inv-loop μ-loop
+without-requires c κs = tt
+
+with-requires-2 : tie.Need-with-requires-2 Inv-loop μ-loop
+with-requires-2 c κs = c .before .before .lowest .ensures .inside
+
+without-requires-2 : tie.Need-without-requires-2 Inv-loop μ-loop
+without-requires-2 c κs = tt
+
+loop-less : tie.Need-loop-less Inv-loop μ-loop
+loop-less c =
+    let found-p = c .before .before .before .before in
+    rw (c .without2 .ensures, c .before .with2 .ensures, c .before .before .without .ensures)
+    (fewer (found-p .before .before .loop .inv) (found-p .lowest .ensures)
+    (c .before .before .before .shared-slice-known2 .given (found-p .lowest .result) .fits))
+
+loop-again : tie.Need-loop-again Inv-loop μ-loop
+loop-again c =
+    let found-p = c .before .before .before .before in
+    rw (c .without2 .ensures, c .before .with2 .ensures, c .before .before .without .ensures)
+    (turns (found-p .before .before .loop .inv) (found-p .lowest .ensures)
+    (c .before .before .before .shared-slice-known2 .given (found-p .lowest .result) .fits))
+
+returns : tie.Need-returns Inv-loop μ-loop
+returns c = ends (rw (c .loop-test .left) at (c .before .loop .inv))
+
+pub grow-spec : {M : Type 1} → statement M
+grow-spec =
+    tie.close
+    (tie.spec
+    Inv-loop
+    μ-loop
+    with-requires
+    loop-holds
+    lowest-requires
+    mul-without
+    shared-slice-read-without
+    without-requires
+    with-requires-2
+    without-requires-2
+    loop-less
+    loop-again
+    returns)

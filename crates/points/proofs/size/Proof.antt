@@ -1,0 +1,16 @@
+-- `points::size` meets its contract: the count of set bits is the number of points.
+-- Assumes nothing.
+use native.Mathlib.Omega.{arith}
+use lib.Count.{ones-le}
+use Rattle.points.proofs.SizeLaws.{size-count}
+use Rattle.points.proofs.size.Statement.{statement}
+use Rattle.points.proofs.size.Tie as tie
+
+cast-result : tie.Need-cast-result
+cast-result c = omega (arith, ones-le 64 (c .args .s) (c .fits .s .fits))
+
+returns : tie.Need-returns
+returns c = size-count 64 (c .args .s) (c .fits .s .fits)
+
+pub size-spec : {M : Type 1} → statement M
+size-spec = tie.close (tie.spec cast-result returns)

@@ -1,0 +1,17 @@
+-- `points::with` meets its contract: the shifted 1 is a power of two that fits.
+-- Assumes nothing.
+use mathlib.Core.Path.{ap}
+use borrow.Author.Needs.{needs}
+use lib.Bits.{bitOr}
+use Rattle.points.proofs.BitLaws.{shifted-one}
+use Rattle.points.proofs.with.Statement.{statement}
+use Rattle.points.proofs.with.Tie as tie
+
+shl-result : tie.Need-shl-result
+shl-result c = search needs
+
+returns : tie.Need-returns
+returns c = ap (bitOr (c .args .s)) (shifted-one (c .args .p) (c .pre))
+
+pub with-spec : {M : Type 1} → statement M
+with-spec = tie.close (tie.spec shl-result returns)

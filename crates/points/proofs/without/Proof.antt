@@ -1,0 +1,13 @@
+-- `points::without` meets its contract, which is its code.
+-- Assumes nothing.
+use mathlib.Core.Path.{refl}
+use Rattle.points.specs.Sets.{less}
+use Rattle.points.proofs.without.Statement.{statement}
+use Rattle.points.proofs.without.Tie as tie
+
+returns : tie.Need-returns
+unfolding less
+returns c = refl
+
+pub without-spec : {M : Type 1} → statement M
+without-spec = tie.close (tie.spec returns)

@@ -1,0 +1,39 @@
+-- A set of points as one number: point p is in it where bit p is 1. Ways as a list of such sets, one for each point that they lead from,
+-- and what is reached over them.
+use Prim.Native.Nat.{ℕ, _-_, _/_, _%_, _^_, _≤_, _<_}
+use mathlib.Core.List.{List}
+use mathlib.Core.Path.{_≡_}
+use mathlib.Core.Bool.{Bool, true, false}
+use lib.ListN.{length, getD}
+use lib.Bits.{bitAnd}
+use lib.Dec.{eqb}
+
+-- point p is in the set s
+unfoldable pub hasBit : ℕ → ℕ → Bool
+hasBit s p = eqb (s / 2 ^ p % 2) 1
+
+-- the points of s that are not in t, of 64 points
+unfoldable pub less : ℕ → ℕ → ℕ
+less s t = bitAnd s (2 ^ 64 - 1 - t)
+
+-- the lowest point of a set
+pub record Lowest (s p : ℕ) : Type 0 where
+  pub inside : p < 64
+  pub there : hasBit s p ≡ true
+  pub least : (q : ℕ) → q < p → hasBit s q ≡ false
+
+-- ways among at most 64 points: bit r of the q-th word says that a way leads from q to r, and none leads out
+pub record Ways (ways : List ℕ) : Type 0 where
+  pub few : length ways ≤ 64
+  pub inside : (q r : ℕ) → hasBit (getD ways q 0) r ≡ true → r < length ways
+
+-- reached from p over ways
+pub data Reach (ways : List ℕ) (p : ℕ) : ℕ → Type 0 where
+  here : Reach ways p p
+  on : {q r : ℕ} → Reach ways p q → hasBit (getD ways q 0) r ≡ true → Reach ways p r
+
+-- r is the set of the points that are reached from p
+pub record Grown (ways : List ℕ) (p r : ℕ) : Type 0 where
+  pub word : r < 2 ^ 64
+  pub sound : (q : ℕ) → hasBit r q ≡ true → Reach ways p q
+  pub whole : (q : ℕ) → Reach ways p q → hasBit r q ≡ true

@@ -1,0 +1,11 @@
+pub mod FirstLaws
+pub mod Pigeonhole
+pub mod LeastWay
+pub mod Appended
+pub mod QueueLaws
+pub mod PathOrder
+pub mod PathLaws
+pub mod SearchLaws
+pub mod QueueTree
+pub mod Explored
+pub mod BreadthFirst

@@ -1,2 +1,3 @@
 pub mod RouteMarked
 pub mod PlanMarked
+pub mod SheetMarked

@@ -31,7 +31,7 @@ pub record Passed (short out rules home : Bool) (rest : ℕ) : Type 0 where
   pub atHome : home ≡ true
   pub after : rest ≡ 0
 
-not-zero : {X : Type 0} (n : ℕ) → suc n ≡ 0 → X
+pub not-zero : {X : Type 0} (n : ℕ) → suc n ≡ 0 → X
 not-zero n h = absurd (omega arith)
 
 passed : (short out rules home : Bool) (rest : ℕ) → numberOf short out rules home rest ≡ 0 → Passed short out rules home rest

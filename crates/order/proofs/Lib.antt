@@ -1,0 +1,15 @@
+pub mod Within
+pub mod Fewer
+pub mod LastPosition
+pub mod Steps
+pub mod Standing
+pub mod LeastRoute
+pub mod FirstToGo
+pub mod KeyRun
+pub mod Retired
+pub mod Named
+pub mod Verdicts
+pub mod AllTries
+pub mod AllMoves
+pub mod Sizes
+pub mod LowestOne

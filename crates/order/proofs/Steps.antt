@@ -1,0 +1,27 @@
+-- The words that the search tries after a word are those that the step rule allows, ascending and below 2 × Z.
+-- They are kept from the words below 2 × Z by a test that holds exactly where the rule does.
+use Prim.Native.Nat.{ℕ, _*_, _<_}
+use mathlib.Core.List.{List·Memᴰ}
+use Rattle.model.specs.Lists.{below, Ascending}
+use Rattle.model.specs.Track.{Track}
+use Rattle.model.specs.Position.{Position}
+use Rattle.model.proofs.ListLaws.{mem-keep, keep-mem, mem-below, below-mem, keep-ascending, below-ascending}
+use Rattle.rules.specs.Routes.{Step}
+use Rattle.rules.specs.Key.{steps, nexts}
+use Rattle.rules.proofs.StepTested.{step-of-test, test-of-step}
+
+module _ (t : Track) (p : Position) (c w v : ℕ) where
+  pub nexts-step : List·Memᴰ v (nexts t p c w) → Step t p c w v
+  unfolding nexts
+  nexts-step m = let k = mem-keep (steps t p c w) (below (2 * t .zones)) m in step-of-test t p c w v (mem-below (2 * t .zones) (k .0)) (k .1)
+
+  pub step-nexts : Step t p c w v → List·Memᴰ v (nexts t p c w)
+  unfolding nexts
+  step-nexts s = keep-mem (steps t p c w) (below-mem (2 * t .zones) v (s .word)) (test-of-step t p c w v s)
+
+  pub nexts-below : List·Memᴰ v (nexts t p c w) → v < 2 * t .zones
+  nexts-below m = nexts-step m .word
+
+pub nexts-ascending : (t : Track) (p : Position) (c w : ℕ) → Ascending (nexts t p c w)
+unfolding nexts
+nexts-ascending t p c w = keep-ascending (steps t p c w) (below (2 * t .zones)) (below-ascending (2 * t .zones))

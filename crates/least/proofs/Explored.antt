@@ -3,14 +3,15 @@
 use Prim.Native.Nat.{ℕ, zero, suc, _≤_, _<_}
 use mathlib.Core.Path.{_≡_, refl, sym, _∙_, ap, subst}
 use mathlib.Core.Logic.{_⊎_, inl, inr}
-use mathlib.Core.List.{List, [], _∷_, List·Memᴰ, List·Memᴰ·head, List·Memᴰ·tail, List·Memᴰ·not-nil, List·Memᴰ·cases-cons, Memᴰ·cast}
+use mathlib.Core.List.{List, [], _∷_, List·Memᴰ, List·Memᴰ·head, List·Memᴰ·tail, List·Memᴰ·not-nil, List·Memᴰ·cases-cons}
 use mathlib.Core.Bool.{Bool, true, false}
 use native.Mathlib.Nat.{eq-or-lt-of-le, le-of-suc-le-suc}
 use native.Mathlib.Omega.{arith}
 use lib.ListN.{length}
 use Rattle.model.specs.Lists.{Ascending}
 use Rattle.least.specs.Queue.{Queue, inQueue, offer, offerAll}
-use Rattle.least.proofs.QueueLaws.{Proper, size, wordAt, fromAt, startQueue, added, Grown, grown-same, grown-twice, grown-added, added-places, offer-cases, offerAll-cons, offerAll-none, in-place}
+use Rattle.least.proofs.QueueLaws.{size, wordAt, fromAt, startQueue, added, added-places, offer-cases, offerAll-cons, offerAll-none, in-place}
+use Rattle.least.proofs.ProperQueue.{Grown, grown-same, grown-twice, grown-added}
 use Rattle.least.proofs.QueueTree.{Tree, tree-start, tree-more, tree-added, Earlier, Sorted, sorted-start, sorted-added, Has, has-added, has-new}
 use Rattle.least.proofs.SearchLaws.{looked}
 
@@ -105,7 +106,7 @@ module _ (nexts : ℕ → List ℕ) (goal : ℕ → Bool) (n w : ℕ) where
       (offer-cases (Looking i o vs) i q v (looking-there i v l) (looking-added i v b (c v (List·Memᴰ·head refl)) l)))
 
   module _ (asc : (w : ℕ) → Ascending (nexts w)) (lower : (w v : ℕ) → List·Memᴰ v (nexts w) → v < n) where
-    pub explored-on : (i : ℕ) {q : Queue} → Explored i q → i < size q → goal (wordAt q i) ≡ false → Explored (suc i) (looked nexts goal i q)
+    pub explored-on : (i : ℕ) {q : Queue} → Explored i q → i < size q → goal (wordAt q i) ≡ false → Explored (suc i) (looked nexts i q)
     explored-on i {q} x b e = record {
       tree = l .tree;
       in-order = l .in-order;

@@ -3,7 +3,7 @@
 use Prim.Native.Nat.{ℕ, zero, suc, _≤_, _<_}
 use mathlib.Core.Path.{_≡_, refl, sym, _∙_, ap, subst}
 use mathlib.Core.Logic.{_⊎_, inl, inr}
-use mathlib.Core.List.{List, [], _∷_, List·Memᴰ, List·Memᴰ·cases-cons, List·Memᴰ·not-nil, List·Memᴰ·eq-of-singleton, tail-eq-of-cons-eq}
+use mathlib.Core.List.{List, _∷_, List·Memᴰ, List·Memᴰ·cases-cons, List·Memᴰ·not-nil, List·Memᴰ·eq-of-singleton, tail-eq-of-cons-eq}
 use mathlib.Core.Bool.{Bool, true, false}
 use mathlib.Core.Option.{Option, none, some, Option·map, Option·some-ne-none, map-eq-some-iff}
 use native.Mathlib.Nat.{eq-or-lt-of-le, le-of-suc-le-suc}
@@ -16,7 +16,7 @@ use Rattle.rules.specs.Search.{followed, goalIn, wordsTo, leastFrom}
 use Rattle.least.specs.Ways.{Way, ends, goes, Before, differs, later}
 use Rattle.model.proofs.ListLaws.{NoRepeats, both-ways, any-true, true-any, first-some, first-none, mem-below, below-mem, below-ascending}
 use Rattle.least.proofs.FirstLaws.{first-exists, first-ascending}
-use Rattle.least.proofs.Pigeonhole.{no-repeats-length}
+use Rattle.least.proofs.RepeatLaws.{no-repeats-length}
 
 module _ (nexts : ℕ → List ℕ) (goal : ℕ → Bool) where
   -- the words read off are a way, with exactly k words

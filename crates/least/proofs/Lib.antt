@@ -1,11 +1,13 @@
 pub mod FirstLaws
-pub mod Pigeonhole
+pub mod RepeatLaws
 pub mod LeastWay
-pub mod Appended
 pub mod QueueLaws
-pub mod PathOrder
-pub mod PathLaws
+pub mod ProperQueue
 pub mod SearchLaws
+pub mod PathLaws
+pub mod PathOrder
 pub mod QueueTree
 pub mod Explored
+pub mod PlaceOrder
+pub mod Meets
 pub mod BreadthFirst

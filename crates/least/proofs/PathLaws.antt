@@ -1,15 +1,14 @@
 -- Walking back from a place to the first: one step at a time, how long it is, and that only words of the queue are passed.
 -- Each place but the first was found from an earlier one, so as many steps as the place's number will do.
 use Prim.Native.Nat.{ℕ, zero, suc, _+_, _≤_, _<_}
-use mathlib.Core.Path.{_≡_, refl, sym, _∙_, ap, subst}
+use mathlib.Core.Path.{_≡_, refl, sym, _∙_, ap}
 use mathlib.Core.Logic.{_⊎_, inl, inr}
 use mathlib.Core.List.{List, [], _∷_, _++_, reverseAux, reverseAux-eq, List·Memᴰ, List·Memᴰ·cases-cons, List·Memᴰ·not-nil}
-use native.Mathlib.Nat.{suc-inj}
 use native.Mathlib.Omega.{arith}
-use lib.ListN.{length, getD}
+use lib.ListN.{length}
 use Rattle.least.specs.Queue.{Queue, pathOnto, pathTo}
-use Rattle.least.proofs.Appended.{length-appended}
-use Rattle.least.proofs.QueueLaws.{Proper, proper-size, size, wordAt, fromAt}
+use Rattle.least.proofs.QueueLaws.{size, wordAt, fromAt, length-appended}
+use Rattle.least.proofs.ProperQueue.{Proper, proper-size}
 
 -- the path to a place, last word first
 pub data BackFrom (q : Queue) : ℕ → List ℕ → Type 0 where
@@ -94,7 +93,7 @@ onto-words {q = q} p (suc k) (suc i) a b r {x} m =
     go (inr n) = found-here (List·Memᴰ·cases-cons n)
 
 module _ {n : ℕ} {q : Queue} (p : Proper n q) (i : ℕ) (b : i < size q) where
-  -- what the program does at each place but the first
+  -- one step back, at each place but the first
   pub path-step : 0 < i → (r : List ℕ) → pathOnto (suc i) q i r ≡ pathOnto (suc (fromAt q i)) q (fromAt q i) (wordAt q i ∷ r)
   path-step z r = go i refl
     where
@@ -126,6 +125,13 @@ module _ {n : ℕ} {q : Queue} (p : Proper n q) (i : ℕ) (b : i < size q) where
 
   pub path-length-step : 0 < i → length (pathTo q i) ≡ suc (length (pathTo q (fromAt q i)))
   path-length-step z = ap length (path-to-step z) ∙ length-appended (pathTo q (fromAt q i)) (wordAt q i)
+
+  pub path-length-least : 0 < length (pathTo q i)
+  path-length-least = go i refl
+    where
+      go : (k : ℕ) → i ≡ k → 0 < length (pathTo q i)
+      go zero e = rw (e, path-to-first q) (omega arith)
+      go (suc k) e = let h = path-length-step (omega arith) in omega arith
 
   pub path-length-most : length (pathTo q i) ≤ n
   path-length-most = let h = path-length q i in let k = proper-size p in omega arith

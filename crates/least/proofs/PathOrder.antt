@@ -1,6 +1,6 @@
 -- The order in which the queue finds paths, written last word first: fewer words, or as many and smaller at the first difference.
 -- One word more at the front keeps it, so it goes by one word at a time; for ways of one length it is `Before`.
-use Prim.Native.Nat.{ℕ, zero, suc, _+_, _≤_, _<_}
+use Prim.Native.Nat.{ℕ, suc, _+_, _≤_, _<_}
 use mathlib.Core.Path.{_≡_, refl, sym, _∙_, ap, subst}
 use mathlib.Core.Logic.{_⊎_, inl, inr}
 use mathlib.Core.List.{List, [], _∷_, reverse, reverseAux, reverse-reverse, tail-eq-of-cons-eq}

@@ -1,20 +1,20 @@
--- What every queue of the search has, finished or not: as many words as places found from, words below n and none twice, and each but the first found from an earlier place.
--- It holds of the first queue, and an offer keeps it.
-use Prim.Native.Nat.{ℕ, zero, suc, _≤_, _<_}
+-- The queue one offer at a time: what an offer does, which words are in the queue, and what stands where after one was added.
+-- An offer is looked at by its two cases; places are those of lists with one element more at the end.
+use Prim.Native.Nat.{ℕ, suc, _≤_, _<_}
 use mathlib.Core.Path.{_≡_, refl, sym, _∙_, ap}
 use mathlib.Core.Logic.{_⊎_, inl, inr}
-use mathlib.Core.List.{List, [], _∷_, _++_, List·Memᴰ, List·Memᴰ·not-nil}
-use mathlib.Core.Bool.{Bool, true, false}
+use mathlib.Core.List.{List, [], _∷_, _++_, List·Memᴰ, List·Memᴰ·head, List·Memᴰ·append-cases, List·Memᴰ·eq-of-singleton, Memᴰ·append-left, Memᴰ·append-right, Memᴰ·cast}
+use mathlib.Core.Bool.{Bool, true, false, _||_, false≢true}
 use native.Mathlib.Nat.{eq-or-lt-of-le, le-of-suc-le-suc}
+use native.Mathlib.Numerals.{add-one}
 use native.Mathlib.Omega.{arith}
-use lib.ListN.{length, getD, List·getD-append}
-use lib.Seq.{getD-at}
+use lib.ListN.{length, getD, drop, length-append, drop-of-length-le, List·getD-append}
+use lib.Seq.{getD-at, drop-cons}
 use lib.Dec.{eqb}
 use borrow.Author.Tests.{eqb-true, eq-eqb}
-use Rattle.model.proofs.ListLaws.{NoRepeats, both-ways, any-true, true-any, any-false, foldLeft-keeps, foldLeft-append}
+use Rattle.model.specs.Lists.{consIf, keep}
+use Rattle.model.proofs.ListLaws.{both-ways, any-true, true-any, not-true-false, foldLeft-keeps, foldLeft-append, mem-getD, getD-mem}
 use Rattle.least.specs.Queue.{Queue, inQueue, offerIf, offer, offerAll}
-use Rattle.least.proofs.Appended.{length-appended, mem-place, place-mem, appended-no-repeats, no-repeats-places}
-use Rattle.least.proofs.Pigeonhole.{no-repeats-length}
 
 -- how many words were found
 abbrev pub size : Queue → ℕ
@@ -35,13 +35,6 @@ startQueue w = record { words = w ∷ []; froms = 0 ∷ [] }
 -- the queue with v, found from place i, at its end
 abbrev pub added : ℕ → Queue → ℕ → Queue
 added i q v = record { words = q .words ++ (v ∷ []); froms = q .froms ++ (i ∷ []) }
-
-pub record Proper (n : ℕ) (q : Queue) : Type 0 where
-  pub even : length (q .froms) ≡ size q
-  pub begun : 0 < size q
-  pub lower : (j : ℕ) → j < size q → wordAt q j < n
-  pub different : NoRepeats (q .words)
-  pub falls : (j : ℕ) → 0 < j → j < size q → fromAt q j < j
 
 -- an offer adds the word or leaves the queue as it is
 pub offer-cases : (P : Queue → Type 0) (i : ℕ) (q : Queue) (v : ℕ) → (inQueue q v ≡ true → P q) → (inQueue q v ≡ false → P (added i q v)) → P (offer i q v)
@@ -72,6 +65,30 @@ pub offerAll-append : (i : ℕ) (q : Queue) (us vs : List ℕ) → offerAll i q 
 unfolding offerAll
 offerAll-append i q us vs = foldLeft-append (offer i) q us vs
 
+-- the offers left from the kth on: the kth now and then the rest, or none
+pub offerAll-next : (i : ℕ) (q : Queue) (vs : List ℕ) (k : ℕ) → k < length vs → offerAll i q (drop k vs) ≡ offerAll i (offer i q (getD vs k 0)) (drop (suc k) vs)
+offerAll-next i q vs k h = ap (offerAll i q) (drop-cons vs k 0 h) ∙ offerAll-cons i q (getD vs k 0) (drop (suc k) vs)
+
+pub offerAll-end : (i : ℕ) (q : Queue) (vs : List ℕ) (k : ℕ) → length vs ≤ k → offerAll i q (drop k vs) ≡ q
+offerAll-end i q vs k h = ap (offerAll i q) (drop-of-length-le vs h) ∙ offerAll-none i q
+
+-- the same where only those that pass a test are offered
+pub offerAll-pass : (f : ℕ → Bool) (i : ℕ) (q : Queue) (vs : List ℕ) (k : ℕ) → k < length vs → f (getD vs k 0) ≡ true
+    → offerAll i q (keep f (drop k vs)) ≡ offerAll i (offer i q (getD vs k 0)) (keep f (drop (suc k) vs))
+offerAll-pass f i q vs k h e =
+    ap (λ (l : List ℕ). offerAll i q (keep f l)) (drop-cons vs k 0 h)
+    ∙ ap (λ (t : Bool). offerAll i q (consIf t (getD vs k 0) (keep f (drop (suc k) vs)))) e
+    ∙ offerAll-cons i q (getD vs k 0) (keep f (drop (suc k) vs))
+
+pub offerAll-skip : (f : ℕ → Bool) (i : ℕ) (q : Queue) (vs : List ℕ) (k : ℕ) → k < length vs → f (getD vs k 0) ≡ false
+    → offerAll i q (keep f (drop k vs)) ≡ offerAll i q (keep f (drop (suc k) vs))
+offerAll-skip f i q vs k h e =
+    ap (λ (l : List ℕ). offerAll i q (keep f l)) (drop-cons vs k 0 h)
+    ∙ ap (λ (t : Bool). offerAll i q (consIf t (getD vs k 0) (keep f (drop (suc k) vs)))) e
+
+pub offerAll-passed : (f : ℕ → Bool) (i : ℕ) (q : Queue) (vs : List ℕ) (k : ℕ) → length vs ≤ k → offerAll i q (keep f (drop k vs)) ≡ q
+offerAll-passed f i q vs k h = ap (λ (l : List ℕ). offerAll i q (keep f l)) (drop-of-length-le vs h) ∙ offerAll-none i q
+
 -- what each offer keeps, all of them keep
 pub offerAll-keeps : (P : Queue → Type 0) (i : ℕ) (vs : List ℕ) → ((q : Queue) (v : ℕ) → List·Memᴰ v vs → P q → P (offer i q v)) → (q : Queue) → P q → P (offerAll i q vs)
 unfolding offerAll
@@ -82,16 +99,44 @@ offerAll-keeps P i vs h q p = foldLeft-keeps P (offer i) vs h q p
 pub in-place : (q : Queue) (v : ℕ) → inQueue q v ≡ true → (j : ℕ) × (j < size q) × (wordAt q j ≡ v)
 in-place q v e =
     let (x, m, t) = any-true (eqb v) (q .words) e in
-    let (j, h, r) = mem-place 0 m in
+    let (j, h, r) = mem-getD 0 m in
     (j, h, r ∙ sym (eqb-true v x t))
 
 pub place-in : (q : Queue) (j : ℕ) {v : ℕ} → j < size q → wordAt q j ≡ v → inQueue q v ≡ true
-place-in q j {v} h e = true-any (eqb v) (place-mem 0 (q .words) j h) (eq-eqb v (wordAt q j) (sym e))
+place-in q j {v} h e = true-any (eqb v) (getD-mem 0 (q .words) j h) (eq-eqb v (wordAt q j) (sym e))
 
 pub not-in-place : (q : Queue) (v : ℕ) → inQueue q v ≡ false → (j : ℕ) → j < size q → wordAt q j ≡ v → ⊥
 not-in-place q v e j h r = both-ways (place-in q j h r) e
 
+-- which words are in the queue at first, and after one was added
+
+pub in-start : (w x : ℕ) → inQueue (startQueue w) x ≡ eqb x w
+in-start w x = go (eqb x w)
+  where
+    go : (t : Bool) → (t || false) ≡ t
+    go true = refl
+    go false = refl
+
+pub in-added-same : (i : ℕ) (q : Queue) (v : ℕ) → inQueue (added i q v) v ≡ true
+in-added-same i q v = true-any (eqb v) (Memᴰ·append-right (q .words) (List·Memᴰ·head refl)) (eq-eqb v v refl)
+
+pub in-added-other : (i : ℕ) (q : Queue) (v x : ℕ) → (x ≡ v → ⊥) → inQueue (added i q v) x ≡ inQueue q x
+in-added-other i q v x h = go (inQueue q x) refl
+  where
+    old-or-new : inQueue q x ≡ false → List·Memᴰ x (q .words) ⊎ List·Memᴰ x (v ∷ []) → ⊥
+    old-or-new e (inl m) = false≢true (sym e ∙ true-any (eqb x) m (eq-eqb x x refl))
+    old-or-new e (inr m) = h (List·Memᴰ·eq-of-singleton m)
+
+    go : (t : Bool) → inQueue q x ≡ t → inQueue (added i q v) x ≡ t
+    go true e = let (y, m, s) = any-true (eqb x) (q .words) e in true-any (eqb x) (Memᴰ·append-left (v ∷ []) m) s
+    go false e = not-true-false (inQueue (added i q v) x) (λ c.
+        let (y, m, s) = any-true (eqb x) (q .words ++ (v ∷ [])) c in
+        old-or-new e (List·Memᴰ·append-cases (q .words) (Memᴰ·cast (eqb-true x y s) m)))
+
 -- places after a word was added
+
+pub length-appended : {A : Type 0} (l : List A) (v : A) → length (l ++ (v ∷ [])) ≡ suc (length l)
+length-appended l v = length-append l (v ∷ []) ∙ add-one (length l)
 
 pub size-added : (i : ℕ) (q : Queue) (v : ℕ) → size (added i q v) ≡ suc (size q)
 size-added i q v = length-appended (q .words) v
@@ -117,78 +162,3 @@ module _ (i : ℕ) (q : Queue) (v : ℕ) (even : length (q .froms) ≡ size q) w
       go : (j ≡ size q) ⊎ (j < size q) → P j (wordAt (added i q v) j) (fromAt (added i q v) j)
       go (inl e) = rw (e, word-new i q v, from-new) new
       go (inr l) = rw (word-old i q v j l, from-old j l) (old j l)
-
-pub proper-start : (n w : ℕ) → w < n → Proper n (startQueue w)
-proper-start n w b = record {
-  even = refl;
-  begun = omega arith;
-  lower = go;
-  different = (List·Memᴰ·not-nil, tt);
-  falls = λ j z h. absurd (omega arith);
-}
-  where
-    go : (j : ℕ) → j < 1 → wordAt (startQueue w) j < n
-    go zero h = b
-    go (suc j) h = absurd (omega arith)
-
-module _ {n : ℕ} {q : Queue} (p : Proper n q) where
-  pub proper-size : size q ≤ n
-  proper-size = no-repeats-length n (q .words) (p .different) (λ x m. let (j, h, e) = mem-place 0 m in rw e at (p .lower j h))
-
-  pub proper-different : (j k : ℕ) → j < k → k < size q → wordAt q j ≡ wordAt q k → ⊥
-  proper-different j k a b e = no-repeats-places (q .words) (p .different) j k a b e
-
-  pub added-proper : (i v : ℕ) → i < size q → v < n → inQueue q v ≡ false → Proper n (added i q v)
-  added-proper i v b c e = record {
-    even = length-appended (q .froms) i ∙ ap suc (p .even) ∙ sym (size-added i q v);
-    begun = rw (size-added i q v) (omega arith);
-    lower = added-places i q v (p .even) (λ j w f. w < n) (p .lower) c;
-    different = appended-no-repeats (q .words) v (p .different) (λ m. let (j, h, r) = mem-place 0 m in not-in-place q v e j h r);
-    falls = λ j z h. added-places i q v (p .even) (λ j w f. 0 < j → f < j) (λ j h z. p .falls j z h) (λ z. b) j h z;
-  }
-
-  pub offer-proper : (i v : ℕ) → i < size q → v < n → Proper n (offer i q v)
-  offer-proper i v b c = offer-cases (Proper n) i q v (λ e. p) (λ e. added-proper i v b c e)
-
--- a new word has room among n places
-pub new-room : {n : ℕ} {q : Queue} → Proper n q → (v : ℕ) → v < n → inQueue q v ≡ false → size q < n
-new-room {q = q} p v c e = rw (size-added 0 q v) at (proper-size (added-proper p 0 v (p .begun) c e))
-
--- r is q with nothing changed and perhaps more at its end
-pub record Grown (q r : Queue) : Type 0 where
-  pub longer : size q ≤ size r
-  pub same-word : (j : ℕ) → j < size q → wordAt r j ≡ wordAt q j
-  pub same-from : (j : ℕ) → j < size q → fromAt r j ≡ fromAt q j
-
-pub grown-same : (q : Queue) → Grown q q
-grown-same q = record { longer = omega arith; same-word = λ j h. refl; same-from = λ j h. refl }
-
-pub grown-twice : {q r s : Queue} → Grown q r → Grown r s → Grown q s
-grown-twice {q} {r} {s} g h = record {
-  longer = omega arith;
-  same-word = λ j b. h .same-word j (omega arith) ∙ g .same-word j b;
-  same-from = λ j b. h .same-from j (omega arith) ∙ g .same-from j b;
-}
-
-pub grown-added : (i : ℕ) (q : Queue) (v : ℕ) → length (q .froms) ≡ size q → Grown q (added i q v)
-grown-added i q v even = record {
-  longer = rw (size-added i q v) (omega arith);
-  same-word = word-old i q v;
-  same-from = from-old i q v even;
-}
-
-pub offer-grown : (i : ℕ) (q : Queue) (v : ℕ) → length (q .froms) ≡ size q → Grown q (offer i q v)
-offer-grown i q v even = offer-cases (Grown q) i q v (λ e. grown-same q) (λ e. grown-added i q v even)
-
-module _ {n : ℕ} {q : Queue} (p : Proper n q) (i : ℕ) (b : i < size q) where
-  offers : (vs : List ℕ) → ((v : ℕ) → List·Memᴰ v vs → v < n) → Proper n (offerAll i q vs) × Grown q (offerAll i q vs)
-  offers vs c = offerAll-keeps (λ r. Proper n r × Grown q r) i vs step q (p, grown-same q)
-    where
-      step : (r : Queue) (v : ℕ) → List·Memᴰ v vs → Proper n r × Grown q r → Proper n (offer i r v) × Grown q (offer i r v)
-      step r v m (k, g) = (offer-proper k i v (omega arith) (c v m), grown-twice g (offer-grown i r v (k .even)))
-
-  pub offerAll-proper : (vs : List ℕ) → ((v : ℕ) → List·Memᴰ v vs → v < n) → Proper n (offerAll i q vs)
-  offerAll-proper vs c = offers vs c .0
-
-  pub offerAll-grown : (vs : List ℕ) → ((v : ℕ) → List·Memᴰ v vs → v < n) → Grown q (offerAll i q vs)
-  offerAll-grown vs c = offers vs c .1

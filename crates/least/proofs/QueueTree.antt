@@ -1,15 +1,15 @@
 -- The queue as a tree of next words from w, its places in the order of their paths, and which words it holds.
 -- Each is shown of the first queue and of a queue to which one word is added.
-use Prim.Native.Nat.{ℕ, zero, suc, _≤_, _<_}
-use mathlib.Core.Path.{_≡_, refl, sym, _∙_, ap}
-use mathlib.Core.Logic.{_⊎_, inl, inr}
-use mathlib.Core.List.{List, [], _∷_, List·Memᴰ}
-use mathlib.Core.Bool.{Bool, true, false}
-use native.Mathlib.Nat.{eq-or-lt-of-le, le-of-suc-le-suc}
+use Prim.Native.Nat.{ℕ, suc, _≤_, _<_}
+use mathlib.Core.Path.{_≡_, refl, _∙_}
+use mathlib.Core.Logic.{_⊎_}
+use mathlib.Core.List.{List, List·Memᴰ}
+use mathlib.Core.Bool.{false}
 use native.Mathlib.Omega.{arith}
 use lib.ListN.{length}
 use Rattle.least.specs.Queue.{Queue, inQueue}
-use Rattle.least.proofs.QueueLaws.{Proper, proper-start, added-proper, size, wordAt, fromAt, startQueue, added, added-places, size-added, word-old, word-new, from-old, from-new, in-place}
+use Rattle.least.proofs.QueueLaws.{size, wordAt, fromAt, startQueue, added, added-places, size-added, word-old, word-new, from-old, from-new}
+use Rattle.least.proofs.ProperQueue.{Proper, proper-start, added-proper}
 
 module _ (nexts : ℕ → List ℕ) (n w : ℕ) where
   -- each word but the first is a next word of the one that it was found from, at a place below m

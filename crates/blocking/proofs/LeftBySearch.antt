@@ -1,0 +1,113 @@
+-- Left by the search, left by the collapse: where none can go any more, the points joined to home over free zones are closed as home's set is.
+-- So home's set lies within them, and a carrier that leaves at one of its points would have gone.
+use Prim.Native.Nat.{ℕ, _*_, _<_}
+use mathlib.Core.List.{List, [], _∷_}
+use mathlib.Core.Path.{_≡_, refl, sym, _∙_, ap, subst}
+use mathlib.Core.Logic.{_⊎_, inl, inr}
+use mathlib.Core.Bool.{Bool, true, false, true≢false}
+use Rattle.model.specs.Track.{Track, Linked, here, over, zoneOf, rev, start, leave}
+use Rattle.model.specs.Position.{Position, at, carrierOf, isFree, Stands}
+use Rattle.model.specs.Labels.{label}
+use Rattle.model.specs.Accepted.{Laid}
+use Rattle.rules.specs.Routes.{Step, goes, route}
+use Rattle.rules.specs.Tries.{NoneCanGo}
+use Rattle.rules.specs.Collapse.{freeParts, loopIn, turns, standing}
+use Rattle.model.proofs.PositionLaws.{zone-rev, rev-below, zone-below, leave-rev, same-zone, stands-carrier, stands-below}
+use Rattle.order.proofs.Within.{Within, stands-before}
+use Rattle.turning.specs.Walks.{Walk}
+use Rattle.turning.proofs.WalkLaws.{widen, walk-of-linked}
+use Rattle.blocking.proofs.Standings.{stands-not-free, standing-zone, within-free, still-stands, held-stands}
+use Rattle.blocking.proofs.HomeSet.{Closed, HomeSet}
+use Rattle.blocking.proofs.Loops.{turns-loop, loop-turns}
+use Rattle.blocking.proofs.Onwards.{apart-outside, along-some, walk-home, Homeward}
+
+module _ {t : Track} {p q : Position} (laid : Laid t p) (within : Within q p) (none : NoneCanGo t q) where
+  -- joined to home over free zones of q
+  abbrev Near : ℕ → Type 0
+  Near v = Linked t (λ z. isFree q z ≡ true) v (t .home)
+
+  word-of : {c w : ℕ} → Stands q c w → w < 2 * t .zones
+  word-of s = stands-below t p laid (stands-before within s)
+
+  -- a carrier that leaves at such a point could go
+  leaves-far : {c w : ℕ} → Stands q c w → Near (leave t w) → ⊥
+  leaves-far {c} {w} s near =
+      let k : (ws : List ℕ) × Walk t (isFree q) (leave t w) ws (t .home) = walk-of-linked t (isFree q) near in
+      let r : Homeward t q c w = walk-home t q c (k .1) w refl (apart-outside w (stands-not-free s) (k .1)) in
+      none c (w ∷ r .0, route s (r .1))
+
+  -- so could one that turns, where it starts at such a point: by turning in its part and back through its own zone
+  starts-far : {c w : ℕ} → Stands q c w → turns t p (freeParts t p) (zoneOf w) ≡ true → Near (start t w) → ⊥
+  starts-far {c} {w} s e near =
+      none c (w ∷ turned .0, route s (turned .1))
+    where
+      loop : loopIn t p (freeParts t p) (label (freeParts t p) (leave t w)) ≡ true
+      loop = sym (turns-loop t (freeParts t p) (stands-before within s)) ∙ e
+
+      turn : (ws : List ℕ) × Walk t (isFree p) (leave t w) ws (leave t w) × (ws ≡ [] → ⊥)
+      turn = loop-turns laid (leave t w) (laid .inside (rev w) (rev-below (t .zones) w (word-of s))) loop
+
+      turn-now : Walk t (isFree q) (leave t w) (turn .0) (leave t w)
+      turn-now = widen t (isFree p) (isFree q) (within-free within) (turn .1)
+
+      rest : (ws : List ℕ) × Walk t (isFree q) (start t w) ws (t .home)
+      rest = walk-of-linked t (isFree q) near
+
+      held-back : isFree q (zoneOf (rev w)) ≡ false
+      held-back = subst (λ (z : ℕ). isFree q z ≡ false) (sym (zone-rev w)) (stands-not-free s)
+
+      back : Homeward t q c (rev w)
+      back = walk-home t q c (rest .1) (rev w) (leave-rev t w) (apart-outside (rev w) held-back (rest .1))
+
+      own : (x : ℕ) → isFree q (zoneOf x) ≡ true → leave t x ≡ leave t w → Step t q c x (rev w)
+      own x f l =
+          record {
+            word = rev-below (t .zones) w (word-of s);
+            touches = sym l;
+            another = λ z. true≢false (sym f ∙ ap (isFree q) (sym z) ∙ held-back);
+            clear = inr (ap carrierOf (ap (at q) (zone-rev w)) ∙ stands-carrier s);
+          }
+
+      turned : Homeward t q c w
+      turned = along-some t q c turn-now (turn .2) w refl (apart-outside w (stands-not-free s) turn-now) (λ x f l. (rev w ∷ back .0, goes (own x f l) (back .1)))
+
+  -- over a free zone of q, either way
+  back-over : (w : ℕ) → w < 2 * t .zones → isFree q (zoneOf w) ≡ true → Near (leave t w) → Near (start t w)
+  back-over w h f near = over w h f refl near
+
+  forth-over : (w : ℕ) → w < 2 * t .zones → isFree q (zoneOf w) ≡ true → Near (start t w) → Near (leave t w)
+  forth-over w h f near =
+      back-over (rev w) (rev-below (t .zones) w h) (ap (isFree q) (zone-rev w) ∙ f) (subst Near (sym (leave-rev t w)) near)
+
+  turning-over : (w : ℕ) → w < 2 * t .zones → turns t p (freeParts t p) (zoneOf w) ≡ true → Near (start t w) → Near (leave t w)
+  turning-over w h e near = by (isFree q (zoneOf w)) refl
+    where
+      never : Stands q (carrierOf (at p (zoneOf w))) (standing t p (zoneOf w)) → (w ≡ standing t p (zoneOf w)) ⊎ (w ≡ rev (standing t p (zoneOf w))) → ⊥
+      never s (inl x) =
+          starts-far s (ap (turns t p (freeParts t p)) (sym (ap zoneOf x)) ∙ e) (subst (λ (v : ℕ). Near (start t v)) x near)
+      never s (inr x) = leaves-far s (subst (λ (v : ℕ). Near (start t v)) x near)
+
+      by : (b : Bool) → isFree q (zoneOf w) ≡ b → Near (leave t w)
+      by true f = forth-over w h f near
+      by false f = absurd (never (held-stands laid within (zoneOf w) (zone-below (t .zones) w h) f) (same-zone w (standing t p (zoneOf w)) (sym (standing-zone t p (zoneOf w)))))
+
+  behind-over : (c w : ℕ) → Stands p c w → Near (leave t w) → Near (start t w)
+  behind-over c w s near = by (isFree q (zoneOf w)) refl
+    where
+      by : (b : Bool) → isFree q (zoneOf w) ≡ b → Near (start t w)
+      by true f = back-over w (stands-below t p laid s) f near
+      by false f = absurd (leaves-far (still-stands within s f) near)
+
+  near-closed : Closed t p Near
+  near-closed =
+      record {
+        has-home = here;
+        over-free = λ w h f. forth-over w h (within-free within (zoneOf w) f);
+        over-turning = turning-over;
+        behind = behind-over;
+      }
+
+  -- a carrier that leaves at a point of home's set is home where none can go
+  pub home-leaves-home : {H : ℕ → Type 0} → HomeSet t p H → (c w : ℕ) → Stands q c w → H (leave t w) → ⊥
+  home-leaves-home home c w s inside =
+      leaves-far s (home .least Near near-closed (leave t w) (laid .inside (rev w) (rev-below (t .zones) w (word-of s))) inside)

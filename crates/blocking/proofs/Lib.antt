@@ -1,0 +1,15 @@
+pub mod Standings
+pub mod HomeSet
+pub mod Loops
+pub mod Onwards
+pub mod LeftBySearch
+pub mod LeftByCollapse
+pub mod NamedOutside
+pub mod Joining
+pub mod Merging
+pub mod Rounds
+pub mod HomeClass
+pub mod LeftMembers
+pub mod SameList
+pub mod FullBoards
+pub mod AnySet

@@ -1,0 +1,2 @@
+pub mod KeyMet
+pub mod NamedMet

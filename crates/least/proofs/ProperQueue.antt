@@ -1,0 +1,96 @@
+-- What every queue of the search has, finished or not: as many words as places found from, words below n and none twice, and each but the first found from an earlier place.
+-- It holds of the first queue and an offer keeps it; an offer changes nothing that stands in the queue already.
+use Prim.Native.Nat.{ℕ, zero, suc, _≤_, _<_}
+use mathlib.Core.Path.{_≡_, refl, sym, _∙_, ap}
+use mathlib.Core.List.{List, List·Memᴰ, List·Memᴰ·not-nil}
+use mathlib.Core.Bool.{false}
+use native.Mathlib.Omega.{arith}
+use lib.ListN.{length}
+use Rattle.model.proofs.ListLaws.{NoRepeats, mem-getD}
+use Rattle.least.specs.Queue.{Queue, inQueue, offer, offerAll}
+use Rattle.least.proofs.RepeatLaws.{appended-no-repeats, no-repeats-places, no-repeats-length}
+use Rattle.least.proofs.QueueLaws.{size, wordAt, fromAt, startQueue, added, offer-cases, offerAll-keeps, not-in-place, length-appended, size-added, word-old, from-old, added-places}
+
+pub record Proper (n : ℕ) (q : Queue) : Type 0 where
+  pub even : length (q .froms) ≡ size q
+  pub begun : 0 < size q
+  pub lower : (j : ℕ) → j < size q → wordAt q j < n
+  pub different : NoRepeats (q .words)
+  -- so walking back ends
+  pub falls : (j : ℕ) → 0 < j → j < size q → fromAt q j < j
+
+pub proper-start : (n w : ℕ) → w < n → Proper n (startQueue w)
+proper-start n w b = record {
+  even = refl;
+  begun = omega arith;
+  lower = go;
+  different = (List·Memᴰ·not-nil, tt);
+  falls = λ j z h. absurd (omega arith);
+}
+  where
+    go : (j : ℕ) → j < 1 → wordAt (startQueue w) j < n
+    go zero h = b
+    go (suc j) h = absurd (omega arith)
+
+module _ {n : ℕ} {q : Queue} (p : Proper n q) where
+  -- so n places are enough
+  pub proper-size : size q ≤ n
+  proper-size = no-repeats-length n (q .words) (p .different) (λ x m. let (j, h, e) = mem-getD 0 m in rw e at (p .lower j h))
+
+  pub proper-different : (j k : ℕ) → j < k → k < size q → wordAt q j ≡ wordAt q k → ⊥
+  proper-different j k a b e = no-repeats-places (q .words) (p .different) j k a b e
+
+  pub added-proper : (i v : ℕ) → i < size q → v < n → inQueue q v ≡ false → Proper n (added i q v)
+  added-proper i v b c e = record {
+    even = length-appended (q .froms) i ∙ ap suc (p .even) ∙ sym (size-added i q v);
+    begun = rw (size-added i q v) (omega arith);
+    lower = added-places i q v (p .even) (λ j w f. w < n) (p .lower) c;
+    different = appended-no-repeats (q .words) v (p .different) (λ m. let (j, h, r) = mem-getD 0 m in not-in-place q v e j h r);
+    falls = λ j z h. added-places i q v (p .even) (λ j w f. 0 < j → f < j) (λ j h z. p .falls j z h) (λ z. b) j h z;
+  }
+
+  pub offer-proper : (i v : ℕ) → i < size q → v < n → Proper n (offer i q v)
+  offer-proper i v b c = offer-cases (Proper n) i q v (λ e. p) (λ e. added-proper i v b c e)
+
+-- a new word has room among n places
+pub new-room : {n : ℕ} {q : Queue} → Proper n q → (v : ℕ) → v < n → inQueue q v ≡ false → size q < n
+new-room {q = q} p v c e = rw (size-added 0 q v) at (proper-size (added-proper p 0 v (p .begun) c e))
+
+-- r is q with nothing changed and perhaps more at its end
+pub record Grown (q r : Queue) : Type 0 where
+  pub longer : size q ≤ size r
+  pub same-word : (j : ℕ) → j < size q → wordAt r j ≡ wordAt q j
+  pub same-from : (j : ℕ) → j < size q → fromAt r j ≡ fromAt q j
+
+pub grown-same : (q : Queue) → Grown q q
+grown-same q = record { longer = omega arith; same-word = λ j h. refl; same-from = λ j h. refl }
+
+pub grown-twice : {q r s : Queue} → Grown q r → Grown r s → Grown q s
+grown-twice {q} {r} {s} g h = record {
+  longer = omega arith;
+  same-word = λ j b. h .same-word j (omega arith) ∙ g .same-word j b;
+  same-from = λ j b. h .same-from j (omega arith) ∙ g .same-from j b;
+}
+
+pub grown-added : (i : ℕ) (q : Queue) (v : ℕ) → length (q .froms) ≡ size q → Grown q (added i q v)
+grown-added i q v even = record {
+  longer = rw (size-added i q v) (omega arith);
+  same-word = word-old i q v;
+  same-from = from-old i q v even;
+}
+
+pub offer-grown : (i : ℕ) (q : Queue) (v : ℕ) → length (q .froms) ≡ size q → Grown q (offer i q v)
+offer-grown i q v even = offer-cases (Grown q) i q v (λ e. grown-same q) (λ e. grown-added i q v even)
+
+module _ {n : ℕ} {q : Queue} (p : Proper n q) (i : ℕ) (b : i < size q) where
+  offers : (vs : List ℕ) → ((v : ℕ) → List·Memᴰ v vs → v < n) → Proper n (offerAll i q vs) × Grown q (offerAll i q vs)
+  offers vs c = offerAll-keeps (λ r. Proper n r × Grown q r) i vs step q (p, grown-same q)
+    where
+      step : (r : Queue) (v : ℕ) → List·Memᴰ v vs → Proper n r × Grown q r → Proper n (offer i r v) × Grown q (offer i r v)
+      step r v m (k, g) = (offer-proper k i v (omega arith) (c v m), grown-twice g (offer-grown i r v (k .even)))
+
+  pub offerAll-proper : (vs : List ℕ) → ((v : ℕ) → List·Memᴰ v vs → v < n) → Proper n (offerAll i q vs)
+  offerAll-proper vs c = offers vs c .0
+
+  pub offerAll-grown : (vs : List ℕ) → ((v : ℕ) → List·Memᴰ v vs → v < n) → Grown q (offerAll i q vs)
+  offerAll-grown vs c = offers vs c .1

@@ -12,7 +12,7 @@ use Rattle.model.specs.Labels.{parts, joinZones, join}
 use Rattle.model.specs.Reading.{refusal, tooShort, wrongLength, wrongVersion, outOfRange, wrongCount, badZone, repeated, thin, apart, trackSaid, positionSaid}
 use Rattle.rules.specs.Search.{leastFrom, wordsTo, goalIn}
 use Rattle.rules.specs.Key.{KeyAnswer, keyOf, keyIn, keyFor, named, run, runFor, firstToGo, leastRoute, zoneFor, nexts, planWords}
-use Rattle.rules.specs.Collapse.{CollapseAnswer, collapseOf, left, mergeAll, mergeZone, joined, turns, loopIn, freeParts}
+use Rattle.rules.specs.Collapse.{CollapseAnswer, collapseOf, collapseIn, left, mergeAll, mergeZone, joined, turns, loopIn, freeParts}
 use Rattle.rules.specs.Sheet.{markOf, markFor, markClaim, sameList, markEntries, markEntry, markEnd, endsHome, byRules, follow, stillOut}
 use Rattle.rules.specs.Tries.{Move, into, home, Allowed, enters, arrives, Moved, Moves}
 use Rattle.rules.specs.Starred.{Row, boardT, turnWith, farLoop, starred, given, said, turnMoves}
@@ -22,7 +22,7 @@ unfolding starred
 starred-rows = refl
 
 pub starred-hold : map given starred ≡ map said starred
-unfolding starred boardT turnWith farLoop keyOf keyIn keyFor named run runFor firstToGo leastRoute zoneFor nexts planWords leastFrom wordsTo goalIn collapseOf left mergeAll mergeZone joined turns loopIn freeParts parts joinZones join refusal tooShort wrongLength wrongVersion outOfRange wrongCount badZone repeated thin apart trackSaid positionSaid markOf markFor markClaim sameList markEntries markEntry markEnd endsHome byRules follow stillOut
+unfolding starred boardT turnWith farLoop keyOf keyIn keyFor named run runFor firstToGo leastRoute zoneFor nexts planWords leastFrom wordsTo goalIn collapseOf collapseIn left mergeAll mergeZone joined turns loopIn freeParts parts joinZones join refusal tooShort wrongLength wrongVersion outOfRange wrongCount badZone repeated thin apart trackSaid positionSaid markOf markFor markClaim sameList markEntries markEntry markEnd endsHome byRules follow stillOut
 starred-hold = refl
 
 abbrev turn : Track

@@ -68,10 +68,14 @@ pub record CollapseAnswer : Type 0 where
   pub number : ℕ
   pub list : List ℕ
 
+-- 11 where the list lent has under C bytes
+unfoldable pub collapseIn : Track → Position → ℕ → CollapseAnswer
+collapseIn t p listRoom =
+    let l = left t p in
+    cond (ltb listRoom (length (outs p))) (record { number = 11; list = [] }) (record { number = 0; list = l })
+
 -- the collapse of a board in bytes, with room for so many numbers lent: 1 to 9 and 11 as the key
 unfoldable pub collapseOf : List ℕ → ℕ → CollapseAnswer
 collapseOf b listRoom =
-    let l = left (trackSaid b) (positionSaid b) in
-    cond (eqb (refusal b) 0)
-    (cond (ltb listRoom (length (outs (positionSaid b)))) (record { number = 11; list = [] }) (record { number = 0; list = l }))
-    (record { number = refusal b; list = [] })
+    let c = collapseIn (trackSaid b) (positionSaid b) listRoom in
+    cond (eqb (refusal b) 0) c (record { number = refusal b; list = [] })

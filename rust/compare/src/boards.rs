@@ -55,14 +55,18 @@ pub fn damaged(random: &mut Random, board: &Board) -> Vec<u8> {
             0 => {
                 bytes.truncate(random.below(bytes.len() + 1));
             }
-            1 => bytes.extend((0..random.below(9)).map(|_| random.next() as u8)),
+            1 => {
+                let more = random.below(9);
+                bytes.extend((0..more).map(|_| random.next() as u8));
+            }
             2 if bytes.len() > 6 => {
                 // A zone more or fewer, with the lengths put right: later rows are met.
                 bytes.truncate(6 + (bytes.len() - 6) / 4 * 4 - 4 * random.below(2));
                 set_lengths(&mut bytes);
             }
             _ if !bytes.is_empty() => {
-                let at = random.below(bytes.len().min(if random.once_in(2) { 6 } else { usize::MAX }));
+                let end = if random.once_in(2) { bytes.len().min(6) } else { bytes.len() };
+                let at = random.below(end);
                 bytes[at] = if random.once_in(2) { random.below(4) as u8 } else { random.next() as u8 };
             }
             _ => {}

@@ -1,11 +1,8 @@
 //! Compares the proved library with the second implementation on many boards and sheets, whole: numbers, lengths, every word of plan and
 //! list, and canaries past what may be written. Ends with status 1 at the first difference.
 
-mod boards;
-mod random;
-mod sheets;
-
-use random::Random;
+use compare::random::Random;
+use compare::{boards, sheets};
 use second::Board;
 
 const SEED: u64 = 20_261_115;
@@ -145,7 +142,8 @@ fn main() {
         compare_mark(&mut tally, &bytes, &sheets::noise(&mut random));
     }
     for _ in 0..5_000 {
-        let bytes: Vec<u8> = (0..random.below(40)).map(|_| random.next() as u8).collect();
+        let length = random.below(40);
+        let bytes: Vec<u8> = (0..length).map(|_| random.next() as u8).collect();
         tally.boards += 1;
         compare_key(&mut tally, &bytes, 8, 8);
     }

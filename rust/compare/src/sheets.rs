@@ -66,5 +66,6 @@ pub fn spoilt(random: &mut Random, sheet: &[u16]) -> Vec<u16> {
 }
 
 pub fn noise(random: &mut Random) -> Vec<u16> {
-    (0..random.below(12)).map(|_| if random.once_in(3) { random.next() as u16 } else { random.below(10) as u16 }).collect()
+    let length = random.below(12);
+    (0..length).map(|_| if random.once_in(3) { random.next() as u16 } else { random.below(10) as u16 }).collect()
 }

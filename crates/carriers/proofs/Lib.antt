@@ -1,0 +1,4 @@
+pub mod Outs
+pub mod Sorting
+pub mod Counting
+pub mod Storing

@@ -1,0 +1,79 @@
+-- A free part: what is grown from a point over free zones is the set of the points with its label, and its size and its zones say
+-- whether it holds a loop. The ways over free zones reach what is linked over them.
+use Prim.Native.Nat.{ℕ, _*_, _<_}
+use mathlib.Core.Path.{_≡_, refl, sym, ap, ap₂, _∙_, subst}
+use mathlib.Core.List.{List}
+use mathlib.Core.Bool.{Bool, true, false, _&&_}
+use native.Mathlib.Omega.{arith}
+use borrow.Author.Tests.{eqb-true, eq-eqb}
+use lib.ListN.{getD}
+use lib.Dec.{eqb, leb}
+use Rattle.model.specs.Lists.{below, count}
+use Rattle.model.specs.Track.{Track, Linked, start}
+use Rattle.model.specs.Track.Linked.{here, over}
+use Rattle.model.specs.Position.{Position, isFree}
+use Rattle.model.specs.Labels.{label}
+use Rattle.model.proofs.ListLaws.{not-true-false, count-below-ext}
+use Rattle.model.proofs.PositionLaws.{linked-trans, linked-word, linked-below}
+use Rattle.model.proofs.LabelLaws.{parts-linked, linked-parts}
+use Rattle.rules.specs.Collapse.{freeParts, loopIn}
+use Rattle.points.specs.Sets.{hasBit, Reach, Grown}
+use Rattle.points.specs.Sets.Reach.{here as there, on}
+use Rattle.points.proofs.SizeLaws.{count-within}
+use Rattle.points.proofs.WayLaws.{reach-on}
+use Rattle.parts.specs.Home.{trackOf}
+use Rattle.parts.specs.Ways.{Sized, goesOn, Over}
+use Rattle.parts.proofs.OneWord.{goes-free}
+
+agree : (a b : Bool) → (a ≡ true → b ≡ true) → (b ≡ true → a ≡ true) → a ≡ b
+agree true b f g = sym (f refl)
+agree false true f g = g refl
+agree false false f g = refl
+
+module _ {points zones : ℕ} {ends : List ℕ} {p : Position} (sized : Sized points zones ends p) {ways : List ℕ} (o : Over ends (goesOn ends p false 0) (2 * zones) ways) (home : ℕ) where
+  abbrev t : Track
+  t = trackOf points home zones ends
+
+  abbrev ls : List ℕ
+  ls = freeParts t p
+
+  -- what is reached over the ways is linked over free zones
+  reach-linked : {a b : ℕ} → Reach ways a b → Linked t (λ z. isFree p z ≡ true) a b
+  reach-linked there = here
+  reach-linked {a} (on {q = q} {r = r} k e) =
+      let w = o .sound q r e in
+      linked-trans t (reach-linked k)
+      (subst (λ (x : ℕ). Linked t (λ z. isFree p z ≡ true) x r) (w .3)
+      (subst (λ (x : ℕ). Linked t (λ z. isFree p z ≡ true) (getD ends (w .0) 0) x) (w .4)
+      (linked-word t (w .0) (w .1) (sym (goes-free ends p 0 (w .0)) ∙ w .2))))
+
+  linked-reach : {a b : ℕ} → Linked t (λ z. isFree p z ≡ true) a b → Reach ways a b
+  linked-reach here = there
+  linked-reach {a} {b} (over w h f e l) =
+      subst (λ (x : ℕ). Reach ways x b) e (reach-on (on there (o .whole w h (goes-free ends p 0 w ∙ f))) (linked-reach l))
+
+  module _ {q part : ℕ} (h : q < points) (g : Grown ways q part) where
+    -- the points grown are those with the label
+    part-label : (r : ℕ) → r < points → hasBit part r ≡ eqb (label ls r) (label ls q)
+    unfolding freeParts
+    part-label r k =
+        agree (hasBit part r) (eqb (label ls r) (label ls q))
+        (λ e. eq-eqb (label ls r) (label ls q) (sym (linked-parts t (sized .inside) (isFree p) q r h (reach-linked (g .sound r e)))))
+        (λ e. g .whole r (linked-reach (parts-linked t (sized .inside) (isFree p) q r h k (sym (eqb-true (label ls r) (label ls q) e)))))
+
+    pub part-inside : (r : ℕ) → hasBit part r ≡ true → r < points
+    part-inside r e = linked-below t (sized .inside) h (reach-linked (g .sound r e))
+
+    -- the test of sizes is the test of a loop
+    pub part-loop : leb (count (hasBit part) (below 64)) (count (λ z. isFree p z && hasBit part (getD ends (2 * z) 0)) (below zones)) ≡ loopIn t p ls (label ls q)
+    unfolding loopIn
+    part-loop =
+        ap₂ leb
+        (count-within points part (g .word) (λ r l. not-true-false (hasBit part r) (λ e. let i : r < points = part-inside r e in omega arith))
+        ∙ count-below-ext (hasBit part) (λ r. eqb (label ls r) (label ls q)) points part-label)
+        (count-below-ext (λ z. isFree p z && hasBit part (getD ends (2 * z) 0)) (λ z. isFree p z && eqb (label ls (start t (2 * z))) (label ls q)) zones
+        (λ z l. ap (λ (b : Bool). isFree p z && b) (part-label (getD ends (2 * z) 0) (sized .inside (2 * z) (omega arith)))))
+
+    -- points of one part hold a loop alike
+    pub part-alike : (r : ℕ) → r < points → hasBit part r ≡ true → loopIn t p ls (label ls r) ≡ loopIn t p ls (label ls q)
+    part-alike r k e = ap (loopIn t p ls) (eqb-true (label ls r) (label ls q) (sym (part-label r k) ∙ e))

@@ -1,0 +1,41 @@
+-- What the steps of the collapse on sets of points hand to each other: ways over words, and the points of the parts with a loop.
+use Prim.Native.Nat.{ℕ, _*_, _^_, _≤_, _<_}
+use mathlib.Core.List.{List}
+use mathlib.Core.Path.{_≡_}
+use mathlib.Core.Bool.{Bool, true, not, _&&_, _||_}
+use lib.ListN.{length, getD}
+use lib.Dec.{eqb}
+use Rattle.model.specs.Track.{zoneOf, headingOf, rev}
+use Rattle.model.specs.Position.{Position, at, isFree}
+use Rattle.model.specs.Labels.{label}
+use Rattle.rules.specs.Collapse.{freeParts, loopIn}
+use Rattle.points.specs.Sets.{hasBit}
+use Rattle.parts.specs.Home.{trackOf}
+
+-- two ends for each zone, each of them one of so many points
+pub record Sized (points zones : ℕ) (ends : List ℕ) (p : Position) : Type 0 where
+  pub some : 0 < points
+  pub few : points ≤ 64
+  pub each : length p ≡ zones
+  pub ends-count : length ends ≡ 2 * zones
+  pub inside : (w : ℕ) → w < 2 * zones → getD ends w 0 < points
+
+-- the point where a word leaves, from the ends
+abbrev pub endOf : List ℕ → ℕ → ℕ
+endOf ends w = getD ends (rev w) 0
+
+-- a set goes on over the word: its zone is free; or, in merging, its carrier heads the other way, or leaves at a point of s
+unfoldable pub goesOn : List ℕ → Position → Bool → ℕ → ℕ → Bool
+goesOn ends p merging s w = isFree p (zoneOf w) || (merging && (not (eqb (headingOf w) (headingOf (at p (zoneOf w)))) || hasBit s (endOf ends w)))
+
+-- the ways over the words below n that a set goes on over: from where such a word starts to where it leaves, and no others
+pub record Over (ends : List ℕ) (goes : ℕ → Bool) (n : ℕ) (ways : List ℕ) : Type 0 where
+  pub long : length ways ≡ 64
+  pub sound : (a b : ℕ) → hasBit (getD ways a 0) b ≡ true → (w : ℕ) × (w < n) × (goes w ≡ true) × (getD ends w 0 ≡ a) × (endOf ends w ≡ b)
+  pub whole : (w : ℕ) → w < n → goes w ≡ true → hasBit (getD ways (getD ends w 0) 0) (endOf ends w) ≡ true
+
+-- the set of the points whose free part holds a loop, wherever home is
+pub record Looped (points zones : ℕ) (ends : List ℕ) (p : Position) (s : ℕ) : Type 0 where
+  pub word : s < 2 ^ 64
+  pub exact : (home q : ℕ) → q < points
+      → let t = trackOf points home zones ends in let ls = freeParts t p in hasBit s q ≡ loopIn t p ls (label ls q)

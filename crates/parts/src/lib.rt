@@ -1,0 +1,150 @@
+// The collapse of a position on sets of points: the parts over free zones, those with a loop, home's set after joining and merging,
+// and the carriers that the collapse leaves.
+ghost use mathlib.Core.Path.{_≡_};
+ghost use mathlib.Core.Bool.{false, _&&_};
+ghost use Prim.Native.Nat.{_*_, _-_, _^_, _≤_, _<_};
+ghost use lib.ListN.{length, getD, replicate};
+ghost use Rattle.model.specs.Lists.{below, count};
+ghost use Rattle.model.specs.Track.{rev};
+ghost use Rattle.model.specs.Position.{isFree};
+ghost use Rattle.points.specs.Sets.{hasBit};
+ghost use Rattle.parts.specs.Home.{trackOf, Ready, HomeWord, leftPosition, Collapsed};
+ghost use Rattle.parts.specs.Ways.{Sized, goesOn, Over, Looped};
+
+// The same zone, the other way.
+fn back(w: usize) -> usize
+    ensures { λ r. ⌜ r ≡ rev w ⌝ }
+{
+    2 * (w / 2) + (1 - w % 2)
+}
+
+// Whether a set of points goes on over word w: its zone is free; or, in merging, its carrier heads the other way, or leaves at a point
+// of a part with a loop.
+fn goes_on(ends: &[usize], position: &[u32], merging: bool, looped: u64, w: usize) -> bool
+    requires { ⌜ Sized 64 (length (now position)) (now ends) (now position) × (w < length (now ends)) ⌝ }
+    ensures { λ r. ⌜ r ≡ goesOn (now (ends .entry)) (now (position .entry)) merging looped w ⌝ }
+{
+    let v = position[w / 2];
+    if v == 0 {
+        return true;
+    }
+    if !merging {
+        return false;
+    }
+    if w % 2 != (v % 2) as usize {
+        return true;
+    }
+    points::has(looped, ends[back(w)])
+}
+
+// The ways over all words that a set goes on over.
+fn add_ways(ends: &[usize], position: &[u32], merging: bool, looped: u64, ways: &mut [u64])
+    requires { ⌜ Sized 64 (length (now position)) (now ends) (now position) × (now ways ≡ replicate 64 0) ⌝ }
+    ensures { λ r. ⌜ Over (now (ends .entry)) (goesOn (now (ends .entry)) (now (position .entry)) merging looped) (length (now (ends .entry))) (now (ways .exit)) ⌝ }
+{
+    let mut w = 0;
+    while w < ends.len() {
+        if goes_on(ends, position, merging, looped, w) {
+            let q = ends[back(w)];
+            points::add_way(ways, ends[w], q);
+        }
+        w += 1;
+    }
+}
+
+// How many free zones start in a part.
+fn zones_in(zones: usize, ends: &[usize], position: &[u32], part: u64) -> usize
+    requires { ⌜ Sized 64 zones (now ends) (now position) ⌝ }
+    ensures { λ r. ⌜ r ≡ count (λ z. isFree (now (position .entry)) z && hasBit part (getD (now (ends .entry)) (2 * z) 0)) (below zones) ⌝ }
+{
+    let mut n = 0;
+    let mut z = 0;
+    while z < zones {
+        if position[z] == 0 {
+            if points::has(part, ends[2 * z]) {
+                n += 1;
+            }
+        }
+        z += 1;
+    }
+    n
+}
+
+// All points, of so many.
+fn all_points(points: usize) -> u64
+    requires { ⌜ (0 < points) × (points ≤ 64) ⌝ }
+    ensures { λ r. ⌜ r ≡ 2 ^ points - 1 ⌝ }
+{
+    !0u64 >> (64 - points)
+}
+
+// The points of the free parts that hold a loop: at least as many free zones as points. The part of the lowest point not yet in one is
+// grown over the ways of free zones.
+fn loops(points: usize, zones: usize, ends: &[usize], position: &[u32], ways: &[u64]) -> u64
+    requires { ⌜ Sized points zones (now ends) (now position) × Over (now ends) (goesOn (now ends) (now position) false 0) (2 * zones) (now ways) ⌝ }
+    ensures { λ r. ⌜ Looped points zones (now (ends .entry)) (now (position .entry)) r ⌝ }
+{
+    let mut looped = 0;
+    let mut rest = all_points(points);
+    while rest != 0 {
+        let part = points::grow(ways, points::lowest(rest));
+        if points::size(part) <= zones_in(zones, ends, position, part) {
+            looped = looped | part;
+        }
+        rest = points::without(rest, part);
+    }
+    looped
+}
+
+// The same, from the position alone.
+fn looped_points(points: usize, zones: usize, ends: &[usize], position: &[u32]) -> u64
+    requires { ⌜ Sized points zones (now ends) (now position) ⌝ }
+    ensures { λ r. ⌜ Looped points zones (now (ends .entry)) (now (position .entry)) r ⌝ }
+{
+    let mut ways = [0u64; 64];
+    add_ways(ends, position, false, 0, &mut ways);
+    loops(points, zones, ends, position, &ways)
+}
+
+// Home's set of points at the end of the collapse. Joining and merging are one growing: a joined zone is gone over both ways, and a
+// held one from where its carrier leaves to where it starts.
+pub fn home_set(points: usize, home: usize, zones: usize, ends: &[usize], position: &[u32]) -> u64
+    requires { ⌜ Ready (trackOf points home zones (now ends)) (now position) ⌝ }
+    ensures { λ r. ⌜ HomeWord (trackOf points home zones (now (ends .entry))) (now (position .entry)) r ⌝ }
+{
+    let looped = looped_points(points, zones, ends, position);
+    let mut ways = [0u64; 64];
+    add_ways(ends, position, true, looped, &mut ways);
+    points::grow(&ways, home)
+}
+
+// Every carrier that leaves at a point of the set is taken off.
+fn take_off(zones: usize, ends: &[usize], set: u64, position: &mut [u32])
+    requires { ⌜ Sized 64 zones (now ends) (now position) ⌝ }
+    ensures { λ r. ⌜ now (position .exit) ≡ leftPosition (now (ends .entry)) set (now (position .entry)) ⌝ }
+{
+    let mut z = 0;
+    while z < zones {
+        let v = position[z];
+        let q = ends[back(2 * z + (v % 2) as usize)];
+        if points::has(set, q) {
+            position[z] = 0;
+        }
+        z += 1;
+    }
+}
+
+// What the collapse leaves of a position: the carriers that it never merges.
+pub fn collapse_position(
+    points: usize,
+    home: usize,
+    zones: usize,
+    ends: &[usize],
+    position: &mut [u32],
+)
+    requires { ⌜ Ready (trackOf points home zones (now ends)) (now position) ⌝ }
+    ensures { λ r. ⌜ Collapsed (trackOf points home zones (now (ends .entry))) (now (position .entry)) (now (position .exit)) ⌝ }
+{
+    let set = home_set(points, home, zones, ends, position);
+    take_off(zones, ends, set, position);
+}

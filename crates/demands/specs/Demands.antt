@@ -1,10 +1,11 @@
 -- Demands 2 and 3 in the words of document 01, of the answers that the operations give on an accepted board.
 -- They speak of routes, orders, tries and moves as relations; no search has to be believed to read them.
-use Prim.Native.Nat.{ℕ, _<_}
+use Prim.Native.Nat.{ℕ, _*_, _≤_, _<_}
 use mathlib.Core.List.{List, [], _∷_, List·Memᴰ}
 use mathlib.Core.Path.{_≡_}
 use mathlib.Core.Bool.{false}
 use mathlib.Core.Logic.{_⊎_, _↔_}
+use lib.ListN.{length}
 use Rattle.model.specs.Lists.{Ascending}
 use Rattle.model.specs.Track.{Track}
 use Rattle.model.specs.Position.{Position, Stands, Out, isFree}
@@ -23,6 +24,8 @@ pub record KeyRight (t : Track) (p : Position) (verdict : ℕ) (plan list : List
   pub retires : Retires t p entries last
   -- at each turn the lowest-numbered carrier that can go leaves, by its least route
   pub lowest : Lowest t p entries last
+  -- no route has more than 2 × Z words
+  pub short : (e : Entry) → List·Memᴰ e entries → length (e .words) ≤ 2 * t .zones
   -- "ordered" is said exactly where some order satisfies Definition 3, and then this plan gives one
   pub ordered : (verdict ≡ 0) ↔ Ordered t p
   pub order-given : verdict ≡ 0 → Empty last
@@ -46,6 +49,8 @@ pub record NamedRight (t : Track) (p : Position) (list : List ℕ) : Type 0 wher
   -- after it each named carrier is still out, and if then none can go, only the named are
   pub left-out : (cs : List ℕ) (q : Position) → Tries t p cs q → (c : ℕ) → List·Memᴰ c list → Out q c
   pub left-out-only : (cs : List ℕ) (q : Position) → Tries t p cs q → NoneCanGo t q → (c : ℕ) → Out q c → List·Memᴰ c list
+  -- and tries can always go on until none can go
+  pub ends : (cs : List ℕ) (q : Position) → Tries t p cs q → (ds : List ℕ) × (r : Position) × Tries t q ds r × NoneCanGo t r
   -- every list of single moves, of any numbers, leads to one position
   pub moved : (ms : List Move) → (q : Position) × Moves t p ms q
   pub moved-once : (ms : List Move) (q r : Position) → Moves t p ms q → Moves t p ms r → q ≡ r

@@ -8,18 +8,18 @@ use mathlib.Core.Bool.{Bool, true, false, cond, not, _&&_, _||_, true≢false}
 use native.Mathlib.Omega.{arith}
 use lib.ListN.{length, getD, length-map, List·getD-eq-default}
 use lib.Dec.{leb, ltb, eqb}
-use borrow.Author.Tests.{ltb-true, ltb-false, leb-true, eqb-true, eqb-false, eq-eqb, ne-eqb, not-false}
+use borrow.Author.Tests.{ltb-true, ltb-false, leb-true, eqb-true, eqb-false, eq-eqb, ne-eqb, not-true, not-false}
 use Rattle.model.specs.Lists.{below, any, all, count}
 use Rattle.model.specs.Track.{zoneOf, headingOf, rev, start}
 use Rattle.model.specs.Position.{at, Stands, Once}
 use Rattle.model.specs.Labels.{label, parts}
 use Rattle.model.specs.Reading.{byte, pointsSaid, homeSaid, zonesSaid, endA, endB, carrierIn, headingIn, trackSaid, positionSaid, tooShort, wrongLength, wrongVersion, outOfRange, wrongCount, badZone, repeated, thin, apart, refusal}
 use Rattle.model.specs.Accepted.{Laid, Accepted, HangsTogether}
-use Rattle.model.proofs.ListLaws.{both-ways, decided, and-left, and-right, length-below, getD-map-below, any-below-false, below-any, all-below}
+use Rattle.model.proofs.ListLaws.{both-ways, decided, and-left, and-right, length-below, getD-map-below, any-below-false, below-any, all-below, all-below-false}
 use Rattle.model.proofs.PositionLaws.{zone-below, rev-below, linked-mono}
-use Rattle.model.proofs.LabelLaws.{parts-linked}
+use Rattle.model.proofs.LabelLaws.{parts-linked, linked-parts}
 
--- no row of the refusals holds
+-- none of the rows 1 to 8 holds
 pub record NoRow (b : List ℕ) : Type 0 where
   pub long : tooShort b ≡ false
   pub length-said : wrongLength b ≡ false
@@ -29,11 +29,14 @@ pub record NoRow (b : List ℕ) : Type 0 where
   pub zones : any (badZone b) (below (zonesSaid b)) ≡ false
   pub repeats : any (repeated b) (below (zonesSaid b)) ≡ false
   pub thins : any (thin b) (below (pointsSaid b)) ≡ false
-  pub together : apart b ≡ false
 
-cond-zero : (t : Bool) (k x : ℕ) → (k ≡ 0 → ⊥) → cond t k x ≡ 0 → (t ≡ false) × (x ≡ 0)
-cond-zero true k x n e = absurd (n e)
-cond-zero false k x n e = (refl, e)
+cond-past : (t : Bool) (r x k : ℕ) → (r ≡ k → ⊥) → cond t r x ≡ k → (t ≡ false) × (x ≡ k)
+cond-past true r x k n e = absurd (n e)
+cond-past false r x k n e = (refl, e)
+
+cond-taken : (t : Bool) → _≡_ {A = ℕ} (cond t 9 0) 9 → t ≡ true
+cond-taken true e = refl
+cond-taken false e = absurd (let h : _≡_ {A = ℕ} 0 9 = e in omega arith)
 
 cond-small : (t : Bool) (k x : ℕ) → k ≤ 9 → x ≤ 9 → cond t k x ≤ 9
 cond-small true k x h i = h
@@ -68,29 +71,41 @@ module _ (b : List ℕ) where
   unfolding refusal row2 row3 row4 row5 row6 row7 row8 row9
   refusal-rows = refl
 
+  -- rows 1 to 8 are passed where the number is 0 or 9, and row 9 says which
+  past-eight : (k : ℕ) → ((r : ℕ) → 0 < r → r < 9 → r ≡ k → ⊥) → refusal b ≡ k → NoRow b × (row9 ≡ k)
+  unfolding row2 row3 row4 row5 row6 row7 row8
+  past-eight k none e =
+      let r1 = cond-past (tooShort b) 1 row2 k (none 1 (omega arith) (omega arith)) (sym refusal-rows ∙ e) in
+      let r2 = cond-past (wrongLength b) 2 row3 k (none 2 (omega arith) (omega arith)) (r1 .1) in
+      let r3 = cond-past (wrongVersion b) 3 row4 k (none 3 (omega arith) (omega arith)) (r2 .1) in
+      let r4 = cond-past (outOfRange b) 4 row5 k (none 4 (omega arith) (omega arith)) (r3 .1) in
+      let r5 = cond-past (wrongCount b) 5 row6 k (none 5 (omega arith) (omega arith)) (r4 .1) in
+      let r6 = cond-past (any (badZone b) (below (zonesSaid b))) 6 row7 k (none 6 (omega arith) (omega arith)) (r5 .1) in
+      let r7 = cond-past (any (repeated b) (below (zonesSaid b))) 7 row8 k (none 7 (omega arith) (omega arith)) (r6 .1) in
+      let r8 = cond-past (any (thin b) (below (pointsSaid b))) 8 row9 k (none 8 (omega arith) (omega arith)) (r7 .1) in (
+        record {
+          long = r1 .0;
+          length-said = r2 .0;
+          version = r3 .0;
+          range = r4 .0;
+          zone-count = r5 .0;
+          zones = r6 .0;
+          repeats = r7 .0;
+          thins = r8 .0;
+        },
+        r8 .1,
+      )
+
   pub no-row : refusal b ≡ 0 → NoRow b
-  unfolding row2 row3 row4 row5 row6 row7 row8 row9
-  no-row e =
-      let r1 = cond-zero (tooShort b) 1 row2 (λ q. omega arith) (sym refusal-rows ∙ e) in
-      let r2 = cond-zero (wrongLength b) 2 row3 (λ q. omega arith) (r1 .1) in
-      let r3 = cond-zero (wrongVersion b) 3 row4 (λ q. omega arith) (r2 .1) in
-      let r4 = cond-zero (outOfRange b) 4 row5 (λ q. omega arith) (r3 .1) in
-      let r5 = cond-zero (wrongCount b) 5 row6 (λ q. omega arith) (r4 .1) in
-      let r6 = cond-zero (any (badZone b) (below (zonesSaid b))) 6 row7 (λ q. omega arith) (r5 .1) in
-      let r7 = cond-zero (any (repeated b) (below (zonesSaid b))) 7 row8 (λ q. omega arith) (r6 .1) in
-      let r8 = cond-zero (any (thin b) (below (pointsSaid b))) 8 row9 (λ q. omega arith) (r7 .1) in
-      let r9 = cond-zero (apart b) 9 0 (λ q. omega arith) (r8 .1) in
-      record {
-        long = r1 .0;
-        length-said = r2 .0;
-        version = r3 .0;
-        range = r4 .0;
-        zone-count = r5 .0;
-        zones = r6 .0;
-        repeats = r7 .0;
-        thins = r8 .0;
-        together = r9 .0;
-      }
+  no-row e = past-eight 0 (λ r pos small q. omega arith) e .0
+
+  together : refusal b ≡ 0 → apart b ≡ false
+  unfolding row9
+  together e = cond-past (apart b) 9 0 0 (λ q. omega arith) (past-eight 0 (λ r pos small q. omega arith) e .1) .0
+
+  row-nine : refusal b ≡ 9 → NoRow b × (apart b ≡ true)
+  unfolding row9
+  row-nine e = let r = past-eight 9 (λ r pos small q. omega arith) e in (r .0, cond-taken (apart b) (r .1))
 
   pub refusal-small : refusal b ≤ 9
   unfolding refusal
@@ -345,10 +360,10 @@ module _ (b : List ℕ) (n : NoRow b) where
   unfolding trackSaid
   laid-said = record { each = length-position b; once = once-said; plain = plain-said; inside = start-in; home-in = in-range b n .home-in }
 
-  -- row 9
-  hangs-said : HangsTogether (trackSaid b)
+  -- row 9: the test is false exactly where every two points are linked
+  hangs-said : apart b ≡ false → HangsTogether (trackSaid b)
   unfolding apart trackSaid
-  hangs-said p q h k = linked-mono (trackSaid b) (λ z _ _. tt) (parts-linked (trackSaid b) start-in (λ z. true) p q h k (of-home p h ∙ sym (of-home q k)))
+  hangs-said together p q h k = linked-mono (trackSaid b) (λ z _ _. tt) (parts-linked (trackSaid b) start-in (λ z. true) p q h k (of-home p h ∙ sym (of-home q k)))
     where
       ls : List ℕ
       ls = parts (trackSaid b) (λ z. true)
@@ -357,7 +372,17 @@ module _ (b : List ℕ) (n : NoRow b) where
       like-home r = eqb (label ls r) (label ls (homeSaid b))
 
       of-home : (r : ℕ) → r < pointsSaid b → label ls r ≡ label ls (homeSaid b)
-      of-home r i = eqb-true (label ls r) (label ls (homeSaid b)) (all-below like-home (pointsSaid b) (not-false (all like-home (below (pointsSaid b))) (n .together)) r i)
+      of-home r i = eqb-true (label ls r) (label ls (homeSaid b)) (all-below like-home (pointsSaid b) (not-false (all like-home (below (pointsSaid b))) together) r i)
+
+  apart-said : apart b ≡ true → HangsTogether (trackSaid b) → ⊥
+  unfolding apart trackSaid
+  apart-said test hangs =
+      let x = all-below-false (λ r. eqb (label ls r) (label ls (homeSaid b))) (pointsSaid b) (not-true (all (λ r. eqb (label ls r) (label ls (homeSaid b))) (below (pointsSaid b))) test) in
+      eqb-false (label ls (x .0)) (label ls (homeSaid b)) (x .2)
+      (linked-parts (trackSaid b) start-in (λ z. true) (x .0) (homeSaid b) (x .1) (linked-mono (trackSaid b) (λ z _ _. refl) (hangs (x .0) (homeSaid b) (x .1) (in-range b n .home-in))))
+    where
+      ls : List ℕ
+      ls = parts (trackSaid b) (λ z. true)
 
   numbers-said : ((i : ℕ) → getD b i 0 < 256) → (z : ℕ) → at (positionSaid b) z < 512
   numbers-said bytes z = go (zone-inside z)
@@ -386,5 +411,9 @@ accepted b bytes e =
       ends-differ = ends-apart b n;
       numbers = numbers-said b n bytes;
       two-zones = not-thin b n;
-      hangs = hangs-said b n;
+      hangs = hangs-said b n (together b e);
     }
+
+-- 9 is given only where some two points are not linked
+pub apart-nine : (b : List ℕ) → refusal b ≡ 9 → HangsTogether (trackSaid b) → ⊥
+apart-nine b e = let r = row-nine b e in apart-said b (r .0) (r .1)

@@ -1,4 +1,4 @@
--- What holds of every board that meets none of the refusals 1 to 9. The code's proof of it is in crate board; the theorems use nothing else.
+-- What holds of every board that meets none of the refusals 1 to 9. proofs/ReadingLaws.antt proves it; the theorems use nothing else.
 use Prim.Native.Nat.{ℕ, _*_, _≤_, _<_}
 use mathlib.Core.Path.{_≡_}
 use lib.ListN.{length}

@@ -1,2 +1,3 @@
 pub mod StarredHold
+pub mod TableHolds
 pub mod StepTested

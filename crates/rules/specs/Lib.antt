@@ -5,3 +5,4 @@ pub mod Key
 pub mod Collapse
 pub mod Sheet
 pub mod Starred
+pub mod Table

@@ -70,7 +70,7 @@ markEntry t p (c ∷ k ∷ ws) rest =
     (cond (not (byRules t p c (take k ws))) 32
     (cond (not (endsHome t (take k ws))) 33 onwards)))
 
--- entry by entry; there are fewer entries than words
+-- entry by entry; there are no more entries than words
 unfoldable pub markEntries : ℕ → Track → Position → List ℕ → ℕ
 markEntries zero t p ws = markEnd p
 markEntries (suc n) t p ws = markEntry t p ws (markEntries n t)

@@ -1,0 +1,110 @@
+-- The table of verdicts of document 01, each row with its own input, and inputs beside them that tell a row from its neighbours.
+-- With the starred boards these pin the numbers, the rooms and the layout of bytes that no theorem speaks of.
+use Prim.Native.Nat.{ℕ}
+use mathlib.Core.List.{List, [], _∷_, _++_}
+use lib.ListN.{replicate}
+use Rattle.rules.specs.Key.{KeyAnswer, turnedBack, keyOf}
+use Rattle.rules.specs.Collapse.{CollapseAnswer, collapseOf}
+use Rattle.rules.specs.Sheet.{markOf}
+use Rattle.rules.specs.Starred.{boardT}
+
+-- an operation's input, with the room lent
+pub data Input : Type 0 where
+  key : (bytes : List ℕ) (planRoom listRoom : ℕ) → Input
+  collapse : (bytes : List ℕ) (listRoom : ℕ) → Input
+  mark : (bytes words : List ℕ) → Input
+
+-- an operation's answer
+pub data Answer : Type 0 where
+  drawn : KeyAnswer → Answer
+  collapsed : CollapseAnswer → Answer
+  marked : ℕ → Answer
+
+abbrev pub answerOf : Input → Answer
+answerOf (key b m n) = drawn (keyOf b m n)
+answerOf (collapse b n) = collapsed (collapseOf b n)
+answerOf (mark b ws) = marked (markOf b ws)
+
+pub record Row : Type 0 where
+  pub input : Input
+  pub answer : Answer
+
+refused : List ℕ → ℕ → Row
+refused b n = record { input = key b 96 8; answer = drawn (turnedBack n) }
+
+ordered : List ℕ → List ℕ → Row
+ordered b plan = record { input = key b 6 1; answer = drawn (record { verdict = 0; plan = plan; list = [] }) }
+
+sheet : List ℕ → List ℕ → ℕ → Row
+sheet b ws n = record { input = mark b ws; answer = marked n }
+
+-- board T with other first bytes; board K
+unfoldable pub headed : ℕ → ℕ → ℕ → ℕ → ℕ → ℕ → List ℕ
+headed l m version points home zones = l ∷ m ∷ version ∷ points ∷ home ∷ zones ∷ 0 ∷ 1 ∷ 0 ∷ 0 ∷ 0 ∷ 1 ∷ 0 ∷ 0 ∷ []
+
+unfoldable pub boardK : List ℕ
+boardK = boardT 7 0 0 0
+
+-- n zones that join 0 and 1, free
+unfoldable pub zonesFree : ℕ → List ℕ
+zonesFree ℕ.zero = []
+zonesFree (ℕ.suc n) = 0 ∷ 1 ∷ 0 ∷ 0 ∷ zonesFree n
+
+unfoldable pub table : List Row
+unfolding refused ordered sheet
+table =
+    -- 1 to 9
+    refused (0 ∷ 12 ∷ 1 ∷ []) 1 ∷
+    refused [] 1 ∷
+    refused (0 ∷ 3 ∷ 1 ∷ 2 ∷ 0 ∷ []) 1 ∷
+    refused (0 ∷ 4 ∷ 2 ∷ 2 ∷ 0 ∷ 2 ∷ []) 3 ∷
+    refused (0 ∷ 12 ∷ 1 ∷ 2 ∷ 0 ∷ 2 ∷ 0 ∷ 1 ∷ 0 ∷ 0 ∷ 0 ∷ 1 ∷ 0 ∷ []) 2 ∷
+    refused (headed 1 12 1 2 0 2) 2 ∷
+    refused (headed 0 12 2 2 0 2) 3 ∷
+    refused (headed 0 12 2 0 0 2) 3 ∷
+    refused (headed 0 12 1 1 0 2) 4 ∷
+    refused (headed 0 12 1 65 0 2) 4 ∷
+    refused (headed 0 12 1 2 2 2) 4 ∷
+    refused (headed 0 12 1 2 0 3) 5 ∷
+    refused (0 ∷ 12 ∷ 1 ∷ 2 ∷ 0 ∷ 2 ∷ 0 ∷ 1 ∷ 0 ∷ 0 ∷ 0 ∷ 0 ∷ 0 ∷ 0 ∷ []) 6 ∷
+    refused (boardT 0 0 0 1) 6 ∷
+    refused (boardT 7 2 0 0) 6 ∷
+    refused (boardT 7 0 7 0) 7 ∷
+    refused (0 ∷ 16 ∷ 1 ∷ 3 ∷ 0 ∷ 3 ∷ 0 ∷ 1 ∷ 0 ∷ 0 ∷ 0 ∷ 1 ∷ 0 ∷ 0 ∷ 1 ∷ 2 ∷ 0 ∷ 0 ∷ []) 8 ∷
+    refused (0 ∷ 20 ∷ 1 ∷ 4 ∷ 0 ∷ 4 ∷ 0 ∷ 1 ∷ 0 ∷ 0 ∷ 0 ∷ 1 ∷ 0 ∷ 0 ∷ 2 ∷ 3 ∷ 0 ∷ 0 ∷ 2 ∷ 3 ∷ 0 ∷ 0 ∷ []) 9 ∷
+    -- L over 255 is read
+    ordered (1 ∷ 4 ∷ 1 ∷ 2 ∷ 0 ∷ 64 ∷ zonesFree 64) [] ∷
+    -- 10 and 11, and room that is just enough
+    record { input = key boardK 5 1; answer = drawn (turnedBack 10) } ∷
+    record { input = key boardK 5 0; answer = drawn (turnedBack 10) } ∷
+    record { input = key boardK 6 0; answer = drawn (turnedBack 11) } ∷
+    ordered boardK (7 ∷ 2 ∷ 0 ∷ 3 ∷ []) ∷
+    record { input = collapse boardK 0; answer = collapsed (record { number = 11; list = [] }) } ∷
+    record { input = collapse boardK 1; answer = collapsed (record { number = 0; list = [] }) } ∷
+    -- another home point, and a zone whose end A is the higher one
+    ordered (0 ∷ 12 ∷ 1 ∷ 2 ∷ 1 ∷ 2 ∷ 0 ∷ 1 ∷ 7 ∷ 0 ∷ 0 ∷ 1 ∷ 0 ∷ 0 ∷ []) (7 ∷ 1 ∷ 0 ∷ []) ∷
+    ordered (0 ∷ 12 ∷ 1 ∷ 2 ∷ 0 ∷ 2 ∷ 1 ∷ 0 ∷ 7 ∷ 0 ∷ 0 ∷ 1 ∷ 0 ∷ 0 ∷ []) (7 ∷ 1 ∷ 0 ∷ []) ∷
+    -- 30 to 35
+    sheet boardK (2 ∷ []) 30 ∷
+    sheet boardK [] 30 ∷
+    sheet boardK (0 ∷ 7 ∷ []) 30 ∷
+    sheet boardK (0 ∷ 7 ∷ 0 ∷ []) 30 ∷
+    sheet boardK (0 ∷ 7 ∷ 3 ∷ 0 ∷ 3 ∷ []) 30 ∷
+    sheet boardK (0 ∷ 8 ∷ 1 ∷ 0 ∷ []) 31 ∷
+    sheet boardK (0 ∷ 0 ∷ 1 ∷ 3 ∷ []) 31 ∷
+    sheet boardK (0 ∷ 263 ∷ 2 ∷ 0 ∷ 3 ∷ []) 31 ∷
+    sheet boardK (0 ∷ 7 ∷ 2 ∷ 0 ∷ 3 ∷ 7 ∷ 2 ∷ 0 ∷ 3 ∷ []) 31 ∷
+    sheet boardK (0 ∷ 7 ∷ 2 ∷ 0 ∷ 2 ∷ []) 32 ∷
+    sheet boardK (0 ∷ 7 ∷ 1 ∷ 1 ∷ []) 32 ∷
+    sheet boardK (0 ∷ 7 ∷ 2 ∷ 0 ∷ 1 ∷ []) 32 ∷
+    sheet boardK (0 ∷ 7 ∷ 2 ∷ 0 ∷ 4 ∷ []) 32 ∷
+    sheet boardK (0 ∷ 7 ∷ 1 ∷ 0 ∷ []) 33 ∷
+    sheet boardK (0 ∷ []) 34 ∷
+    sheet boardK (1 ∷ 7 ∷ []) 35 ∷
+    sheet boardK (1 ∷ []) 35 ∷
+    -- right sheets: through home and on, back through the own zone; another order than the key's; the true list
+    sheet boardK (0 ∷ 7 ∷ 4 ∷ 0 ∷ 3 ∷ 0 ∷ 3 ∷ []) 0 ∷
+    sheet (boardT 7 1 9 1) (0 ∷ 9 ∷ 1 ∷ 3 ∷ 7 ∷ 1 ∷ 1 ∷ []) 0 ∷
+    sheet (boardT 7 0 9 0) (1 ∷ 7 ∷ 9 ∷ []) 0 ∷
+    sheet (boardT 7 0 9 0) (1 ∷ 9 ∷ 7 ∷ []) 35 ∷
+    sheet (boardT 7 0 9 0) (1 ∷ 7 ∷ 265 ∷ []) 35 ∷ []

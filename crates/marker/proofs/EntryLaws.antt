@@ -1,0 +1,163 @@
+-- The number of the entry at a place of the sheet, case by case as the code finds it: 30 by the counts, 31 and 32 by the standing and a look
+-- through the position, else the number of its route. Each case is the rules' four tests in their order.
+use Prim.Native.Nat.{ℕ, suc, _+_, _-_, _*_, _≤_, _<_}
+use mathlib.Core.List.{List, [], _∷_}
+use mathlib.Core.Path.{_≡_, refl, sym, ap, ap₂, _∙_}
+use mathlib.Core.Bool.{Bool, true, false, cond, not, _&&_, _||_, false≢true}
+use native.Mathlib.Omega.{arith}
+use lib.ListN.{length, getD, take, drop, set, length-drop, drop-of-length-le}
+use lib.Seq.{drop-cons}
+use lib.Dec.{ltb, eqb}
+use borrow.Author.Tests.{lt-ltb, le-ltb, eq-eqb, ne-eqb, not-true, not-false}
+use Rattle.model.specs.Track.{Track, zoneOf, headingOf}
+use Rattle.model.specs.Position.{Position, at, retire}
+use Rattle.model.proofs.ListLaws.{and-left, or-left, or-right}
+use Rattle.rules.specs.Sheet.{stillOut, follow, byRules, endsHome, markEntry}
+use Rattle.marker.specs.Marked.{trackOf, Ready, standsAt, routeNumber, entryNumber, EntryMarked}
+use Rattle.marker.proofs.FreedLaws.{standing-word, standing-stands, stands-out, freed}
+
+-- the rules' four tests of an entry, in their order
+abbrev pub numberOf : Bool → Bool → Bool → Bool → ℕ → ℕ
+numberOf short out rules home rest = cond short 30 (cond (not out) 31 (cond (not rules) 32 (cond (not home) 33 rest)))
+
+-- the entry at a place of the sheet
+module _ (sheet : List ℕ) (place : ℕ) where
+  abbrev pub carrier : ℕ
+  carrier = getD sheet place 0
+
+  abbrev pub counted : ℕ
+  counted = getD sheet (place + 1) 0
+
+  abbrev pub standing : ℕ
+  standing = getD sheet (place + 2) 0
+
+  -- the words after the standing
+  abbrev pub others : List ℕ
+  others = take (place + 2 + counted - (place + 3)) (drop (place + 3) sheet)
+
+  one-word : place < length sheet → length sheet - place < 2 → drop place sheet ≡ carrier ∷ []
+  one-word h s = drop-cons sheet place 0 h ∙ ap (λ (l : List ℕ). carrier ∷ l) (drop-of-length-le sheet {i = suc place} (omega arith))
+
+  two-words : 2 ≤ length sheet - place → drop place sheet ≡ carrier ∷ counted ∷ drop (place + 2) sheet
+  two-words h =
+      let one : suc place ≡ place + 1 = omega arith in
+      let two : suc (place + 1) ≡ place + 2 = omega arith in
+      drop-cons sheet place 0 (omega arith)
+      ∙ ap (λ (n : ℕ). carrier ∷ drop n sheet) one
+      ∙ ap (λ (l : List ℕ). carrier ∷ l) (drop-cons sheet (place + 1) 0 (omega arith))
+      ∙ ap (λ (n : ℕ). carrier ∷ counted ∷ drop n sheet) two
+
+  -- it has its count of words
+  pub record Whole : Type 0 where
+    pub two : 2 ≤ length sheet - place
+    pub some : counted ≡ 0 → ⊥
+    pub fits : counted ≤ length sheet - place - 2
+
+  whole-test : Whole → (eqb counted 0 || ltb (length (drop (place + 2) sheet)) counted) ≡ false
+  whole-test h = let k : counted ≤ length sheet - place - 2 = h .fits in rw (ne-eqb counted 0 (h .some)) (le-ltb (length (drop (place + 2) sheet)) counted (rw (length-drop (place + 2) sheet) (omega arith)))
+
+  route-words : Whole → take counted (drop (place + 2) sheet) ≡ standing ∷ others
+  route-words h =
+      let n : counted ≡ 0 → ⊥ = h .some in
+      let so-many : counted ≡ suc (place + 2 + counted - (place + 3)) = omega arith in
+      let three : suc (place + 2) ≡ place + 3 = omega arith in
+      ap₂ take so-many (drop-cons sheet (place + 2) 0 (omega arith) ∙ ap (λ (m : ℕ). standing ∷ drop m sheet) three)
+
+  module _ (t : Track) (p : Position) where
+    number-short : place < length sheet → length sheet - place < 2 → entryNumber t p (drop place sheet) ≡ 30
+    unfolding entryNumber markEntry
+    number-short h s = ap (entryNumber t p) (one-word h s)
+
+    number-not-whole : 2 ≤ length sheet - place → (eqb counted 0 || ltb (length (drop (place + 2) sheet)) counted) ≡ true → entryNumber t p (drop place sheet) ≡ 30
+    unfolding entryNumber markEntry
+    number-not-whole h e = ap (entryNumber t p) (two-words h) ∙ ap (λ (a : Bool). numberOf a (stillOut p carrier) (byRules t p carrier (take counted (drop (place + 2) sheet))) (endsHome t (take counted (drop (place + 2) sheet))) 0) e
+
+    number-whole : Whole → entryNumber t p (drop place sheet) ≡ numberOf false (stillOut p carrier) (byRules t p carrier (standing ∷ others)) (endsHome t (standing ∷ others)) 0
+    unfolding entryNumber markEntry
+    number-whole h =
+        ap (entryNumber t p) (two-words (h .two))
+        ∙ ap₂ (λ (a : Bool) (r : List ℕ). numberOf a (stillOut p carrier) (byRules t p carrier r) (endsHome t r) 0) (whole-test h) (route-words h)
+
+-- a first word that isn't the standing of a carrier that is out is against the rules
+no-standing : (t : Track) (p : Position) (c w : ℕ) (vs : List ℕ) → stillOut p c ≡ true → standsAt (t .zones) p c w ≡ false → byRules t p c (w ∷ vs) ≡ false
+unfolding standsAt byRules stillOut
+no-standing t p c w vs o s = go (eqb c 0) (ltb w (2 * t .zones)) (eqb (at p (zoneOf w)) (2 * c + headingOf w)) (and-left (not (eqb c 0)) _ o) s
+  where
+    go : (a b d : Bool) → not a ≡ true → (not a && (b && d)) ≡ false → (b && (d && follow t p c w vs)) ≡ false
+    go true b d e f = absurd (false≢true e)
+    go false true true e f = absurd (false≢true (sym f))
+    go false true false e f = refl
+    go false false d e f = refl
+
+-- from the standing on the rules are those of the route
+by-standing : (t : Track) (p : Position) (c w : ℕ) (vs : List ℕ) → standsAt (t .zones) p c w ≡ true → byRules t p c (w ∷ vs) ≡ follow t p c w vs
+unfolding standsAt byRules
+by-standing t p c w vs s = go (eqb c 0) (ltb w (2 * t .zones)) (eqb (at p (zoneOf w)) (2 * c + headingOf w)) s
+  where
+    go : (a b d : Bool) → (not a && (b && d)) ≡ true → (b && (d && follow t p c w vs)) ≡ follow t p c w vs
+    go true b d e = absurd (false≢true e)
+    go false true true e = refl
+    go false true false e = absurd (false≢true e)
+    go false false d e = absurd (false≢true e)
+
+-- an entry that starts with its carrier's standing has its route's number
+route-decides : (t : Track) (p : Position) (sheet : List ℕ) (place : ℕ) → Whole sheet place → length p ≡ t .zones → standsAt (t .zones) p (carrier sheet place) (standing sheet place) ≡ true
+    → entryNumber t p (drop place sheet) ≡ routeNumber t p (carrier sheet place) (standing sheet place) (others sheet place)
+unfolding routeNumber
+route-decides t p sheet place h each s =
+    let c = carrier sheet place in
+    let w = standing sheet place in
+    let vs = others sheet place in
+    number-whole sheet place t p h
+    ∙ ap₂ (λ (b d : Bool). numberOf false b d (endsHome t (w ∷ vs)) 0) (stands-out (standing-stands (t .zones) p c w s each)) (by-standing t p c w vs s)
+
+-- what the code finds at the entry, as it finds it
+module _ {home zones : ℕ} {ends : List ℕ} {p : Position} {sheet : List ℕ} {place : ℕ} where
+  -- an entry that fails leaves the position as it was
+  fails : {r : ℕ} → ((points : ℕ) → entryNumber (trackOf points home zones ends) p (drop place sheet) ≡ r) → (r ≡ 0 → ⊥) → EntryMarked home zones ends p sheet place r p
+  fails {r} e n = record { number = λ points. sym (e points); leaves = ap (λ (t : Bool). cond t (retire (carrier sheet place) p) p) (sym (ne-eqb r 0 n)) }
+
+  pub short-fails : place < length sheet → length sheet - place < 2 → EntryMarked home zones ends p sheet place 30 p
+  short-fails h s = fails (λ points. number-short sheet place (trackOf points home zones ends) p h s) (λ e. omega arith)
+
+  pub empty-fails : 2 ≤ length sheet - place → counted sheet place ≡ 0 → EntryMarked home zones ends p sheet place 30 p
+  empty-fails h e =
+      let k = counted sheet place in
+      fails (λ points. number-not-whole sheet place (trackOf points home zones ends) p h (or-left (eqb k 0) (ltb (length (drop (place + 2) sheet)) k) (eq-eqb k 0 e))) (λ e. omega arith)
+
+  pub past-fails : 2 ≤ length sheet - place → length sheet - place - 2 < counted sheet place → EntryMarked home zones ends p sheet place 30 p
+  past-fails h s =
+      let k = counted sheet place in
+      let short : length (drop (place + 2) sheet) < k = rw (length-drop (place + 2) sheet) (omega arith) in
+      fails (λ points. number-not-whole sheet place (trackOf points home zones ends) p h (or-right (eqb k 0) (ltb (length (drop (place + 2) sheet)) k) (lt-ltb (length (drop (place + 2) sheet)) k short))) (λ e. omega arith)
+
+  module _ (h : Whole sheet place) where
+    pub out-fails : {o : Bool} → o ≡ stillOut p (carrier sheet place) → o ≡ false → EntryMarked home zones ends p sheet place 31 p
+    out-fails e f =
+        let r = standing sheet place ∷ others sheet place in
+        fails (λ points. let t = trackOf points home zones ends in number-whole sheet place t p h ∙ ap (λ (b : Bool). numberOf false b (byRules t p (carrier sheet place) r) (endsHome t r) 0) (sym e ∙ f)) (λ e. omega arith)
+
+    pub standing-fails : {o s : Bool} → o ≡ stillOut p (carrier sheet place) → o ≡ true → s ≡ standsAt zones p (carrier sheet place) (standing sheet place) → not s ≡ true → EntryMarked home zones ends p sheet place 32 p
+    standing-fails {o} {s} e f g n =
+        let c = carrier sheet place in
+        let w = standing sheet place in
+        let vs = others sheet place in
+        fails (λ points. let t = trackOf points home zones ends in number-whole sheet place t p h ∙ ap₂ (λ (b d : Bool). numberOf false b d (endsHome t (w ∷ vs)) 0) (sym e ∙ f) (no-standing t p c w vs (sym e ∙ f) (sym g ∙ not-true s n))) (λ e. omega arith)
+
+    pub route-fails : {s : Bool} {r : ℕ} → length p ≡ zones → s ≡ standsAt zones p (carrier sheet place) (standing sheet place) → not s ≡ false
+        → ((points : ℕ) → r ≡ routeNumber (trackOf points home zones ends) p (carrier sheet place) (standing sheet place) (others sheet place)) → (r ≡ 0 → ⊥) → EntryMarked home zones ends p sheet place r p
+    route-fails {s} each g m e n = fails (λ points. route-decides (trackOf points home zones ends) p sheet place h each (sym g ∙ not-false s m) ∙ sym (e points)) n
+
+    pub route-passes : {s : Bool} {r : ℕ} → Ready zones ends p → s ≡ standsAt zones p (carrier sheet place) (standing sheet place) → not s ≡ false
+        → ((points : ℕ) → r ≡ routeNumber (trackOf points home zones ends) p (carrier sheet place) (standing sheet place) (others sheet place)) → r ≡ 0 → EntryMarked home zones ends p sheet place 0 (set p (zoneOf (standing sheet place)) 0)
+    route-passes {s} ready g m e z =
+        let c = carrier sheet place in
+        let w = standing sheet place in
+        record {
+          number = λ points. sym z ∙ e points ∙ sym (route-decides (trackOf points home zones ends) p sheet place h (ready .each) (sym g ∙ not-false s m));
+          leaves = freed p c w (ready .once) (standing-stands zones p c w (sym g ∙ not-false s m) (ready .each));
+        }
+
+-- a standing is a word of the track
+pub stands-below : {s : Bool} (zones : ℕ) (p : Position) (c w : ℕ) → s ≡ standsAt zones p c w → not s ≡ false → w < 2 * zones
+stands-below {s} zones p c w g m = standing-word zones p c w (sym g ∙ not-false s m)

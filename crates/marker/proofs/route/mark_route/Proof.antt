@@ -1,0 +1,82 @@
+-- `marker::route::mark_route` meets its contract. The loop's invariant: the number of the words from place i on is the whole route's.
+-- Assumes nothing.
+use Prim.Native.Nat.{_-_}
+use mathlib.Core.Path.{refl}
+use native.Mathlib.Omega.{arith}
+use lib.ListN.{length}
+use Rattle.marker.proofs.RouteLaws.{Following, no-word, no-step, step-on, not-home, at-home}
+use Rattle.marker.proofs.route.mark_route.Statement.{statement}
+use Rattle.marker.proofs.route.mark_route.Tie as tie
+
+abbrev Inv-loop : tie.InvT-loop
+Inv-loop home zones ends position carrier standing words w₀ i₀ w i = Following home zones ends position carrier standing words w i
+
+abbrev μ-loop : tie.MeasureT-loop
+μ-loop home zones ends position carrier standing words w₀ i₀ w i = length words - i
+
+loop-holds : tie.Need-loop-holds Inv-loop μ-loop
+loop-holds c = record { within = omega arith; word = omega arith; same = λ points. refl }
+
+mul-v : tie.Need-mul-v Inv-loop μ-loop
+mul-v c = omega arith
+
+shared-slice-read-v : tie.Need-shared-slice-read-v Inv-loop μ-loop
+shared-slice-read-v c = omega arith
+
+cast-v : tie.Need-cast-v Inv-loop μ-loop
+cast-v c = omega (arith, c .shared-slice-known4 .given (c .before .before .loop .i))
+
+mul-if1 : tie.Need-mul-if1 Inv-loop μ-loop
+mul-if1 c = omega arith
+
+returns : tie.Need-returns Inv-loop μ-loop
+returns c = no-word (c .before .before .before .loop .inv) (c .before .before .loop-test .taken) (c .if1 .taken)
+
+may-step-requires : tie.Need-may-step-requires Inv-loop μ-loop
+may-step-requires c κs = omega arith
+
+returns-2 : tie.Need-returns-2 Inv-loop μ-loop
+returns-2 c =
+    let d = c .before .before in
+    no-step (d .before .before .before .loop .inv) (d .before .before .loop-test .taken) (d .if1 .left) (c .before .may-step .ensures) (c .if2 .taken)
+
+add-i : tie.Need-add-i Inv-loop μ-loop
+add-i c = omega arith
+
+loop-less : tie.Need-loop-less Inv-loop μ-loop
+loop-less c = omega arith
+
+loop-again : tie.Need-loop-again Inv-loop μ-loop
+loop-again c =
+    let d = c .before .before in
+    step-on (d .before .before .before .loop .inv) (d .before .before .loop-test .taken) (d .if1 .left) (c .before .may-step .ensures) (c .if2 .left)
+
+leaving-requires : tie.Need-leaving-requires Inv-loop μ-loop
+leaving-requires c κs = omega arith
+
+returns-3 : tie.Need-returns-3 Inv-loop μ-loop
+returns-3 c = not-home (c .before .before .before .loop .inv) (c .before .before .loop-test .left) (c .before .leaving .ensures) (c .if3 .taken)
+
+returns-4 : tie.Need-returns-4 Inv-loop μ-loop
+returns-4 c = at-home (c .before .before .before .loop .inv) (c .before .before .loop-test .left) (c .before .leaving .ensures) (c .if3 .left)
+
+pub mark-route-spec : {M : Type 1} → statement M
+mark-route-spec =
+    tie.close
+    (tie.spec
+    Inv-loop
+    μ-loop
+    loop-holds
+    mul-v
+    shared-slice-read-v
+    cast-v
+    mul-if1
+    returns
+    may-step-requires
+    returns-2
+    add-i
+    loop-less
+    loop-again
+    leaving-requires
+    returns-3
+    returns-4)

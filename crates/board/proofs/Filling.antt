@@ -1,0 +1,78 @@
+-- Filling an array from the front: what it holds after each store, and that at the end it is the board's list made long enough by zeros.
+-- The list is split at the place that is stored to.
+use Prim.Native.Nat.{ℕ, zero, suc, _+_, _-_, _*_, _/_, _%_, _≤_, _<_}
+use native.Mathlib.Omega.{arith}
+use native.Mathlib.Numerals.{add-one}
+use mathlib.Core.List.{List, [], _∷_, _++_, map, map-append, append-assoc}
+use mathlib.Core.Path.{_≡_, refl, sym, _∙_, ap, ap₂}
+use lib.ListN.{length, getD, set, replicate, length-map}
+use lib.Seq.{set-at}
+use Rattle.model.specs.Lists.{below}
+use Rattle.model.specs.Reading.{byte, trackSaid, positionSaid, zonesSaid, carrierIn, headingIn}
+use Rattle.model.proofs.ListLaws.{length-below, below-suc}
+use Rattle.board.specs.Given.{padded}
+use Rattle.board.specs.Tables.{ByteAt, endSaid}
+
+pub getD-zeros : (n i : ℕ) → _≡_ {A = ℕ} (getD (replicate n 0) i 0) 0
+getD-zeros zero i = refl
+getD-zeros (suc n) zero = refl
+getD-zeros (suc n) (suc i) = getD-zeros n i
+
+-- n places: f of each of the first w, then zeros
+abbrev pub filled : ℕ → (ℕ → ℕ) → ℕ → List ℕ
+filled n f w = map f (below w) ++ replicate (n - w) 0
+
+pub length-mapped : (f : ℕ → ℕ) (w : ℕ) → length (map f (below w)) ≡ w
+length-mapped f w = length-map (below w) f ∙ length-below w
+
+pub map-next : (f : ℕ → ℕ) (n : ℕ) → map f (below (n + 1)) ≡ map f (below n) ++ (f n ∷ [])
+map-next f n = ap (λ (k : ℕ). map f (below k)) (add-one n) ∙ ap (map f) (below-suc n) ∙ map-append f (below n) (n ∷ [])
+
+zeros-next : (n w : ℕ) → w < n → _≡_ {A = List ℕ} (replicate (n - w) 0) (0 ∷ replicate (n - (w + 1)) 0)
+zeros-next n w l = ap (λ (k : ℕ). replicate k 0) (let e : n - w ≡ suc (n - (w + 1)) = omega arith in e)
+
+pub filled-next : (n : ℕ) (f : ℕ → ℕ) (w : ℕ) → w < n → set (filled n f w) w (f w) ≡ filled n f (w + 1)
+filled-next n f w l =
+    ap (λ (r : List ℕ). set (map f (below w) ++ r) w (f w)) (zeros-next n w l) ∙
+    set-at (map f (below w)) 0 (replicate (n - (w + 1)) 0) (f w) w (length-mapped f w) ∙
+    sym (ap (λ (r : List ℕ). r ++ replicate (n - (w + 1)) 0) (map-next f w) ∙ append-assoc (map f (below w)) (f w ∷ []) (replicate (n - (w + 1)) 0))
+
+padded-is : (n : ℕ) (f : ℕ → ℕ) (w : ℕ) → padded n (map f (below w)) ≡ filled n f w
+unfolding padded
+padded-is n f w = ap (λ (k : ℕ). map f (below w) ++ replicate (n - k) 0) (length-mapped f w)
+
+pub ends-filled : (b : List ℕ) → padded 192 (trackSaid b .ends) ≡ filled 192 (endSaid b) (2 * zonesSaid b)
+unfolding trackSaid
+ends-filled b = padded-is 192 (endSaid b) (2 * zonesSaid b)
+
+-- what a zone holds, as the bytes say it
+abbrev pub heldSaid : List ℕ → ℕ → ℕ
+heldSaid b z = 2 * carrierIn b z + headingIn b z
+
+pub position-filled : (b : List ℕ) → padded 96 (positionSaid b) ≡ filled 96 (heldSaid b) (zonesSaid b)
+unfolding positionSaid
+position-filled b = padded-is 96 (heldSaid b) (zonesSaid b)
+
+-- a turn of each loop, and its end
+
+pub ends-next : {b e : List ℕ} {z p q : ℕ} → e ≡ filled 192 (endSaid b) (2 * z) → ByteAt b (4 * z + 6) p → ByteAt b (4 * z + 7) q → z < 96 → set (set e (2 * z) p) (2 * z + 1) q ≡ filled 192 (endSaid b) (2 * (z + 1))
+ends-next {b} {e} {z} {p} {q} h P Q l =
+    ap (λ (r : List ℕ). set r (2 * z + 1) q) (ap₂ (λ (r : List ℕ) (v : ℕ). set r (2 * z) v) h first ∙ filled-next 192 (endSaid b) (2 * z) (omega arith)) ∙
+    ap (set (filled 192 (endSaid b) (2 * z + 1)) (2 * z + 1)) second ∙
+    filled-next 192 (endSaid b) (2 * z + 1) (omega arith) ∙
+    ap (filled 192 (endSaid b)) (let n : 2 * z + 1 + 1 ≡ 2 * (z + 1) = omega arith in n)
+  where
+    first : p ≡ endSaid b (2 * z)
+    first = P .is ∙ ap (byte b) (let i : 4 * z + 6 ≡ 4 * (2 * z / 2) + 2 * z % 2 + 6 = omega arith in i)
+
+    second : q ≡ endSaid b (2 * z + 1)
+    second = Q .is ∙ ap (byte b) (let i : 4 * z + 7 ≡ 4 * ((2 * z + 1) / 2) + (2 * z + 1) % 2 + 6 = omega arith in i)
+
+pub ends-last : {b e : List ℕ} {z n : ℕ} → e ≡ filled 192 (endSaid b) (2 * z) → ByteAt b 5 n → z ≤ n → n ≤ z → e ≡ padded 192 (trackSaid b .ends)
+ends-last {b} {e} {z} {n} h N i j = h ∙ ap (filled 192 (endSaid b)) (let s : n ≡ zonesSaid b = N .is in let q : 2 * z ≡ 2 * zonesSaid b = omega arith in q) ∙ sym (ends-filled b)
+
+pub position-next : {b e : List ℕ} {z c h : ℕ} → e ≡ filled 96 (heldSaid b) z → ByteAt b (4 * z + 8) c → ByteAt b (4 * z + 9) h → z < 96 → set e z (2 * c + h) ≡ filled 96 (heldSaid b) (z + 1)
+position-next {b} {e} {z} {c} {h} f C H l = rw (f, C .is, H .is) (filled-next 96 (heldSaid b) z l)
+
+pub position-last : {b e : List ℕ} {z n : ℕ} → e ≡ filled 96 (heldSaid b) z → ByteAt b 5 n → z ≤ n → n ≤ z → e ≡ padded 96 (positionSaid b)
+position-last {b} {e} {z} {n} h N i j = h ∙ ap (filled 96 (heldSaid b)) (let s : n ≡ zonesSaid b = N .is in let q : z ≡ zonesSaid b = omega arith in q) ∙ sym (position-filled b)

@@ -1,0 +1,32 @@
+-- Loops that look for a first number that passes a test: what holds at each turn, and what is known when they stop.
+-- Where one passes it is met at its turn, and at the end none passed.
+use Prim.Native.Nat.{ℕ, _+_, _≤_, _<_}
+use native.Mathlib.Omega.{arith}
+use mathlib.Core.List.{List}
+use mathlib.Core.Path.{_≡_, sym}
+use mathlib.Core.Bool.{Bool, true, false}
+use borrow.Author.Count.{below-more}
+use Rattle.model.specs.Lists.{below, any}
+use Rattle.model.specs.Reading.{byte}
+use Rattle.model.proofs.ListLaws.{below-any, below-any-false}
+use Rattle.board.specs.Tables.{ByteAt}
+
+-- z is at most n, and none of the numbers below z passes
+pub record NoneYet (f : ℕ → Bool) (n z : ℕ) : Type 0 where
+  pub within : z ≤ n
+  pub none : (x : ℕ) → x < z → f x ≡ false
+
+module _ (f : ℕ → Bool) where
+  pub none-first : (n : ℕ) → NoneYet f n 0
+  none-first n = record { within = omega arith; none = λ x l. absurd (omega arith) }
+
+  pub none-next : {n z : ℕ} → NoneYet f n z → z < n → f z ≡ false → NoneYet f n (z + 1)
+  none-next {n} {z} y l e = record { within = omega arith; none = below-more (λ (x : ℕ). f x ≡ false) z (y .none) e }
+
+  -- one that passes was met
+  pub met : {b : List ℕ} {i n z : ℕ} → ByteAt b i n → z < n → f z ≡ true → true ≡ any f (below (byte b i))
+  met {b} {i} {n} {z} N l e = sym (below-any f (byte b i) z (rw (N .is) at l) e)
+
+  -- the end was met
+  pub none-met : {b : List ℕ} {i n z : ℕ} → ByteAt b i n → NoneYet f n z → n ≤ z → false ≡ any f (below (byte b i))
+  none-met {b} {i} {n} {z} N y l = sym (below-any-false f (byte b i) (λ x k. y .none x (let s : n ≡ byte b i = N .is in omega arith)))

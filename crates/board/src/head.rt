@@ -1,0 +1,54 @@
+// Rows 1 to 5: what the first six bytes and the number of bytes say.
+use crate::said::byte;
+ghost use mathlib.Core.Path.{_≡_};
+ghost use Rattle.model.specs.Reading.{tooShort, wrongLength, wrongVersion, outOfRange, wrongCount};
+
+// Row 1: under 6 bytes.
+pub fn too_short(bytes: &[u8]) -> bool
+    ensures { λ r. ⌜ r ≡ tooShort (now (bytes .entry)) ⌝ }
+{
+    bytes.len() < 6
+}
+
+// Row 2: L isn't the count of bytes after it.
+pub fn wrong_length(bytes: &[u8]) -> bool
+    ensures { λ r. ⌜ r ≡ wrongLength (now (bytes .entry)) ⌝ }
+{
+    256 * byte(bytes, 0) + byte(bytes, 1) + 2 != bytes.len()
+}
+
+// Row 3: the version isn't 1.
+pub fn wrong_version(bytes: &[u8]) -> bool
+    ensures { λ r. ⌜ r ≡ wrongVersion (now (bytes .entry)) ⌝ }
+{
+    byte(bytes, 2) != 1
+}
+
+// Row 4: P, home or Z out of range.
+pub fn out_of_range(bytes: &[u8]) -> bool
+    ensures { λ r. ⌜ r ≡ outOfRange (now (bytes .entry)) ⌝ }
+{
+    let points = byte(bytes, 3);
+    let home = byte(bytes, 4);
+    let zones = byte(bytes, 5);
+    if points < 2 {
+        return true;
+    }
+    if 64 < points {
+        return true;
+    }
+    if points <= home {
+        return true;
+    }
+    if zones < 2 {
+        return true;
+    }
+    96 < zones
+}
+
+// Row 5: L isn't 4 + 4 × Z.
+pub fn wrong_count(bytes: &[u8]) -> bool
+    ensures { λ r. ⌜ r ≡ wrongCount (now (bytes .entry)) ⌝ }
+{
+    256 * byte(bytes, 0) + byte(bytes, 1) != 4 + 4 * byte(bytes, 5)
+}

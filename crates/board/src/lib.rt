@@ -1,0 +1,86 @@
+// The board reader: from any bytes whatever, the number of the first refusal that holds, or 0 with
+// the track and the first position that they say. Nothing is written, and there is no `requires`.
+mod ends;
+mod fill;
+mod head;
+mod said;
+mod zones;
+
+ghost use mathlib.Core.Path.{_≡_};
+ghost use Rattle.model.specs.Reading.{refusal};
+ghost use Rattle.board.specs.Given.{boardOf};
+
+// The ends of zone z are ends[2 * z] and ends[2 * z + 1]. A zone's place in position is 0 where it
+// is free, else 2 × carrier + heading. Both arrays hold zeros past the last zone, and on a refusal
+// every field but number is zero.
+pub struct Board {
+    pub number: u32,
+    pub points: usize,
+    pub home: usize,
+    pub zones: usize,
+    pub ends: [usize; 192],
+    pub position: [u32; 96],
+}
+
+// The rows in rising order: the first that holds.
+fn refusal_of(bytes: &[u8]) -> u32
+    ensures { λ r. ⌜ r ≡ refusal (now (bytes .entry)) ⌝ }
+{
+    if head::too_short(bytes) {
+        return 1;
+    }
+    if head::wrong_length(bytes) {
+        return 2;
+    }
+    if head::wrong_version(bytes) {
+        return 3;
+    }
+    if head::out_of_range(bytes) {
+        return 4;
+    }
+    if head::wrong_count(bytes) {
+        return 5;
+    }
+    if zones::any_bad(bytes) {
+        return 6;
+    }
+    if zones::any_repeated(bytes) {
+        return 7;
+    }
+    if ends::any_thin(bytes) {
+        return 8;
+    }
+    if ends::apart(bytes) {
+        return 9;
+    }
+    0
+}
+
+pub fn read(bytes: &[u8]) -> Board
+    ensures { λ r. ⌜ r ≡ boardOf (now (bytes .entry)) ⌝ }
+{
+    let number = refusal_of(bytes);
+    if number != 0 {
+        return Board {
+            number: number,
+            points: 0,
+            home: 0,
+            zones: 0,
+            ends: [0; 192],
+            position: [0; 96],
+        };
+    }
+    let points = said::byte(bytes, 3);
+    let home = said::byte(bytes, 4);
+    let zones = said::byte(bytes, 5);
+    let ends = fill::ends(bytes);
+    let position = fill::position(bytes);
+    Board {
+        number: 0,
+        points: points,
+        home: home,
+        zones: zones,
+        ends: ends,
+        position: position,
+    }
+}

@@ -1,0 +1,146 @@
+-- How long a page can be: at most 75,127 bytes for a board of 96 zones.
+-- Each text's length is added up; a number below 1000 has at most three digits and a zone below 96 at most two.
+use Prim.Native.Nat.{ℕ, _+_, _*_, _≤_, _<_}
+use mathlib.Core.Path.{_≡_, refl, ap, _∙_}
+use mathlib.Core.List.{List, [], _∷_, List·Memᴰ, List·Memᴰ·head, List·Memᴰ·tail}
+use mathlib.Core.Bool.{Bool, true, false, cond}
+use native.Mathlib.Omega.{arith}
+use borrow.Author.Tests.{eqb-true}
+use lib.ListN.{length, length-append}
+use lib.Dec.{ltb, eqb}
+use Rattle.model.specs.Reading.{refusal, trackSaid, positionSaid}
+use Rattle.model.specs.Track.{Track, zoneOf, headingOf}
+use Rattle.model.specs.Position.{Position, outs}
+use Rattle.model.proofs.ReadingLaws.{refusal-small}
+use Rattle.rules.specs.Routes.{Entry}
+use Rattle.rules.specs.Key.{run, named, verdictOf}
+use Rattle.page.specs.Page.{spelled, inRow, decimal, labelled, wordText, spaced, entryLine, entryLines, blockedText, headLines, keyPage, refusedPage, tooLongPage, pageFor, pageOf, PAGE}
+use Rattle.page.proofs.DecimalLaws.{below-hundred, below-thousand}
+use Rattle.page.proofs.PlanPut.{entryPieces}
+use Rattle.page.proofs.PagePut.{headPieces, keyPieces}
+
+-- an entry of a plan on at most 96 zones
+pub record SmallEntry (e : Entry) : Type 0 where
+  pub carrier-small : e .carrier < 1000
+  pub words-few : length (e .words) ≤ 192
+  pub words-small : (w : ℕ) → List·Memᴰ w (e .words) → w < 192
+
+-- what a page of a board of at most 96 zones is written from
+pub record SmallKey (points zones out verdict : ℕ) (es : List Entry) (blocked : List ℕ) : Type 0 where
+  pub points-small : points < 1000
+  pub zones-small : zones < 1000
+  pub out-small : out < 1000
+  pub verdict-small : verdict < 1000
+  pub entries-few : length es ≤ 96
+  pub entries-small : (e : Entry) → List·Memᴰ e es → SmallEntry e
+  pub blocked-few : length blocked ≤ 96
+  pub blocked-small : (c : ℕ) → List·Memᴰ c blocked → c < 1000
+
+-- the same of a track and its first position
+abbrev pub SmallPage : Track → Position → Type 0
+SmallPage t p = SmallKey (t .points) (t .zones) (length (outs p)) (verdictOf (named t p)) (run t p .plan) (named t p)
+
+abbrev lengths : List (List ℕ) → ℕ
+lengths [] = 0
+lengths (a ∷ l) = length a + lengths l
+
+row-length : (l : List (List ℕ)) → length (inRow l) ≡ lengths l
+row-length [] = refl
+row-length (a ∷ l) = length-append a (inRow l) ∙ ap (λ (n : ℕ). length a + n) (row-length l)
+
+labelled-length : (label : List ℕ) (n : ℕ) → n < 1000 → length (labelled label n) ≤ length label + 3
+labelled-length label n h = let r = row-length (label ∷ decimal n ∷ []) in let d = below-thousand n h in omega arith
+
+word-length : (w : ℕ) → w < 192 → length (wordText w) ≤ 3
+unfolding wordText
+word-length w h = go (eqb (headingOf w) 0)
+  where
+    go : (t : Bool) → length (inRow (decimal (zoneOf w) ∷ cond t (spelled "+") (spelled "-") ∷ [])) ≤ 3
+    go true = let r = row-length (decimal (zoneOf w) ∷ spelled "+" ∷ []) in let d = below-hundred (zoneOf w) (omega arith) in omega arith
+    go false = let r = row-length (decimal (zoneOf w) ∷ spelled "-" ∷ []) in let d = below-hundred (zoneOf w) (omega arith) in omega arith
+
+spaced-none : (f : ℕ → List ℕ) → length (spaced f []) ≤ 0
+unfolding spaced
+spaced-none f = omega arith
+
+spaced-more : (f : ℕ → List ℕ) (a : ℕ) (l : List ℕ) → length (spaced f (a ∷ l)) ≡ 1 + (length (f a) + length (spaced f l))
+unfolding spaced
+spaced-more f a l = row-length (spelled " " ∷ f a ∷ spaced f l ∷ []) ∙ omega arith
+
+spaced-length : (f : ℕ → List ℕ) (l : List ℕ) → ((a : ℕ) → List·Memᴰ a l → length (f a) ≤ 3) → length (spaced f l) ≤ 4 * length l
+spaced-length f [] h = spaced-none f
+spaced-length f (a ∷ l) h =
+    let one : length (f a) ≤ 3 = h a (List·Memᴰ·head refl) in
+    let rest : length (spaced f l) ≤ 4 * length l = spaced-length f l (λ b m. h b (List·Memᴰ·tail m)) in
+    omega (arith, spaced-more f a l)
+
+entry-sum : (e : Entry) → length (entryLine e) ≡ lengths (entryPieces e)
+unfolding entryLine
+entry-sum e = row-length (entryPieces e)
+
+entry-length : (e : Entry) → SmallEntry e → length (entryLine e) ≤ 778
+entry-length e s =
+    let name = labelled-length (spelled "home ") (e .carrier) (s .carrier-small) in
+    let words = spaced-length wordText (e .words) (λ w m. word-length w (s .words-small w m)) in
+    omega (arith, entry-sum e)
+
+lines-none : length (entryLines []) ≤ 0
+unfolding entryLines
+lines-none = omega arith
+
+lines-more : (e : Entry) (es : List Entry) → length (entryLines (e ∷ es)) ≡ length (entryLine e) + length (entryLines es)
+unfolding entryLines
+lines-more e es = row-length (entryLine e ∷ entryLines es ∷ []) ∙ omega arith
+
+lines-length : (es : List Entry) → ((e : Entry) → List·Memᴰ e es → SmallEntry e) → length (entryLines es) ≤ 778 * length es
+lines-length [] h = lines-none
+lines-length (e ∷ es) h =
+    let one : length (entryLine e) ≤ 778 = entry-length e (h e (List·Memᴰ·head refl)) in
+    let rest : length (entryLines es) ≤ 778 * length es = lines-length es (λ f m. h f (List·Memᴰ·tail m)) in
+    omega (arith, lines-more e es)
+
+blocked-length : (l : List ℕ) → length l ≤ 96 → ((c : ℕ) → List·Memᴰ c l → c < 1000) → length (blockedText l) ≤ 384
+unfolding blockedText
+blocked-length [] few small = omega arith
+blocked-length (c ∷ cs) few small = let s = spaced-length decimal (c ∷ cs) (λ a m. below-thousand a (small a m)) in omega arith
+
+module _ {points zones out verdict : ℕ} {es : List Entry} {blocked : List ℕ} (s : SmallKey points zones out verdict es blocked) where
+  head-sum : length (headLines points zones out verdict) ≡ lengths (headPieces points zones out verdict)
+  unfolding headLines
+  head-sum = row-length (headPieces points zones out verdict)
+
+  head-length : length (headLines points zones out verdict) ≤ 47
+  head-length =
+      let p = labelled-length (spelled "board ") points (s .points-small) in
+      let z = labelled-length (spelled " points ") zones (s .zones-small) in
+      let o = labelled-length (spelled " zones ") out (s .out-small) in
+      let v = labelled-length (spelled " out\nverdict ") verdict (s .verdict-small) in
+      omega (arith, head-sum)
+
+  page-sum : length (keyPage points zones out verdict es blocked) ≡ lengths (keyPieces points zones out verdict es blocked)
+  unfolding keyPage
+  page-sum = row-length (keyPieces points zones out verdict es blocked)
+
+  pub key-page-fits : length (keyPage points zones out verdict es blocked) ≤ PAGE
+  key-page-fits =
+      let h = head-length in
+      let l = lines-length es (s .entries-small) in
+      let b = blocked-length blocked (s .blocked-few) (s .blocked-small) in
+      omega (arith, page-sum)
+
+pub refused-page-fits : (number : ℕ) → number < 1000 → length (refusedPage number) ≤ PAGE
+unfolding refusedPage
+refused-page-fits number h =
+    let r = row-length (labelled (spelled "refused ") number ∷ spelled "\n" ∷ []) in
+    let l = labelled-length (spelled "refused ") number h in
+    omega arith
+
+-- of every board in bytes, given the sizes of what the key finds
+pub page-of-fits : (b : List ℕ) → (refusal b ≡ 0 → SmallPage (trackSaid b) (positionSaid b)) → length (pageOf b) ≤ PAGE
+unfolding pageOf pageFor
+page-of-fits b small = go (ltb 390 (length b)) (eqb (refusal b) 0) refl
+  where
+    go : (long right : Bool) → eqb (refusal b) 0 ≡ right → length (cond long tooLongPage (cond right (pageFor (trackSaid b) (positionSaid b)) (refusedPage (refusal b)))) ≤ PAGE
+    go true right e = omega arith
+    go false true e = key-page-fits (small (eqb-true (refusal b) 0 e))
+    go false false e = let r = refusal-small b in refused-page-fits (refusal b) (omega arith)

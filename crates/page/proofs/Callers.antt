@@ -1,0 +1,37 @@
+-- What a caller of `write_key` shows, and which page a board in bytes has.
+-- A caller knows the plan as the words of some entries; the sizes give the room.
+use Prim.Native.Nat.{ℕ, _≤_, _<_}
+use mathlib.Core.Path.{_≡_}
+use mathlib.Core.List.{List}
+use native.Mathlib.Nat.{le-trans}
+use borrow.Author.Tests.{lt-ltb, le-ltb, eq-eqb, ne-eqb}
+use lib.ListN.{length, take}
+use Rattle.model.specs.Reading.{refusal, trackSaid, positionSaid}
+use Rattle.rules.specs.Routes.{Entry}
+use Rattle.rules.specs.Key.{planWords}
+use Rattle.page.specs.Page.{refusedPage, tooLongPage, pageFor, pageOf, PAGE}
+use Rattle.page.specs.Writing.{Writable}
+use Rattle.page.proofs.PlanLaws.{is-plan, entries-in-plan}
+use Rattle.page.proofs.Bound.{SmallKey, key-page-fits}
+
+-- `entries-in-plan es written` then turns what `write_key` ensures to these entries
+pub writable : {points zones out verdict words count : ℕ} {plan list page : List ℕ} (es : List Entry) → take words plan ≡ planWords es → words ≤ length plan → count ≤ length list → SmallKey points zones out verdict es (take count list) → PAGE ≤ length page → Writable points zones out verdict plan words list count page
+writable es written words-in count-in small long = record {
+  words-in = words-in;
+  count-in = count-in;
+  planned = is-plan es written;
+  room = rw (entries-in-plan es written) (le-trans (key-page-fits small) long);
+}
+
+module _ (b : List ℕ) where
+  pub page-too-long : 390 < length b → pageOf b ≡ tooLongPage
+  unfolding pageOf
+  page-too-long long = rw (lt-ltb 390 (length b) long)
+
+  pub page-refused : length b ≤ 390 → (refusal b ≡ 0 → ⊥) → pageOf b ≡ refusedPage (refusal b)
+  unfolding pageOf
+  page-refused short wrong = rw (le-ltb 390 (length b) short, ne-eqb (refusal b) 0 wrong)
+
+  pub page-right : length b ≤ 390 → refusal b ≡ 0 → pageOf b ≡ pageFor (trackSaid b) (positionSaid b)
+  unfolding pageOf
+  page-right short right = rw (le-ltb 390 (length b) short, eq-eqb (refusal b) 0 right)

@@ -1,0 +1,55 @@
+-- A number in decimal: one digit below 10, else the number without its last digit and then that digit; three digits at most below 1000.
+-- How far `digits` may go is of no matter once it is above the number.
+use Prim.Native.Nat.{ℕ, zero, suc, _+_, _/_, _%_, _≤_, _<_}
+use mathlib.Core.Path.{_≡_, refl, ap, _∙_}
+use mathlib.Core.List.{List, [], _∷_, _++_}
+use mathlib.Core.Bool.{Bool, true, false}
+use native.Mathlib.Omega.{arith}
+use borrow.Author.Tests.{lt-ltb, le-ltb, ltb-true, ltb-false}
+use lib.ListN.{length, length-append}
+use lib.Dec.{ltb}
+use Rattle.page.specs.Page.{digits, decimal}
+
+digits-few : (k n : ℕ) → n < 10 → digits (suc k) n ≡ (48 + n) ∷ []
+unfolding digits
+digits-few k n h = rw (lt-ltb n 10 h)
+
+digits-more : (k n : ℕ) → 10 ≤ n → digits (suc k) n ≡ digits k (n / 10) ++ ((48 + n % 10) ∷ [])
+unfolding digits
+digits-more k n h = rw (le-ltb n 10 h)
+
+digits-enough : (k j n : ℕ) → n < k → n < j → digits k n ≡ digits j n
+digits-enough zero j n h i = absurd (omega arith)
+digits-enough (suc k) zero n h i = absurd (omega arith)
+digits-enough (suc k) (suc j) n h i = go (ltb n 10) refl (λ few. digits-enough k j (n / 10) (omega arith) (omega arith))
+  where
+    go : (t : Bool) → ltb n 10 ≡ t → (10 ≤ n → digits k (n / 10) ≡ digits j (n / 10)) → digits (suc k) n ≡ digits (suc j) n
+    go true e same = digits-few k n (ltb-true n 10 e) ∙ rw (digits-few j n (ltb-true n 10 e))
+    go false e same =
+        digits-more k n (ltb-false n 10 e) ∙ rw (digits-more j n (ltb-false n 10 e))
+        (ap (λ (l : List ℕ). l ++ ((48 + n % 10) ∷ [])) (same (ltb-false n 10 e)))
+
+pub decimal-few : (n : ℕ) → n < 10 → decimal n ≡ (48 + n) ∷ []
+unfolding decimal
+decimal-few n h = digits-few n n h
+
+pub decimal-more : (n : ℕ) → 10 ≤ n → decimal n ≡ decimal (n / 10) ++ ((48 + n % 10) ∷ [])
+unfolding decimal
+decimal-more n h =
+    digits-more n n h ∙ ap (λ (l : List ℕ). l ++ ((48 + n % 10) ∷ [])) (digits-enough n (suc (n / 10)) (n / 10) (omega arith) (omega arith))
+
+longer : (n m : ℕ) → (n < 10 → 1 ≤ m) → (10 ≤ n → length (decimal (n / 10)) < m) → length (decimal n) ≤ m
+longer n m few more = go (ltb n 10) refl
+  where
+    go : (t : Bool) → ltb n 10 ≡ t → length (decimal n) ≤ m
+    go true e = rw (decimal-few n (ltb-true n 10 e)) (few (ltb-true n 10 e))
+    go false e = rw (decimal-more n (ltb-false n 10 e), length-append) (let h : length (decimal (n / 10)) < m = more (ltb-false n 10 e) in omega arith)
+
+pub below-ten : (n : ℕ) → n < 10 → length (decimal n) ≤ 1
+below-ten n h = longer n 1 (λ _. omega arith) (λ m. absurd (omega arith))
+
+pub below-hundred : (n : ℕ) → n < 100 → length (decimal n) ≤ 2
+below-hundred n h = longer n 2 (λ _. omega arith) (λ m. let d : length (decimal (n / 10)) ≤ 1 = below-ten (n / 10) (omega arith) in omega arith)
+
+pub below-thousand : (n : ℕ) → n < 1000 → length (decimal n) ≤ 3
+below-thousand n h = longer n 3 (λ _. omega arith) (λ m. let d : length (decimal (n / 10)) ≤ 2 = below-hundred (n / 10) (omega arith) in omega arith)

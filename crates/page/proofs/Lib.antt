@@ -1,0 +1,11 @@
+pub mod BoardPages
+pub mod DecimalLaws
+pub mod PutLaws
+pub mod NumberPut
+pub mod WordPut
+pub mod SpacedPut
+pub mod PlanLaws
+pub mod PlanPut
+pub mod PagePut
+pub mod Bound
+pub mod Callers

@@ -1,0 +1,9 @@
+pub mod ReadyLaws
+pub mod ReadBoard
+pub mod KeyLaws
+pub mod KeyGivenLaws
+pub mod KeyPromised
+pub mod CollapseLaws
+pub mod CollapsePromised
+pub mod MarkLaws
+pub mod MarkPromised

@@ -1,0 +1,17 @@
+-- `parsed::verdict` meets its contract, by the length of whatever list has so many numbers.
+use mathlib.Core.Path.{sym, _∙_}
+use Rattle.exam.proofs.KeyLaws.{verdict-none, verdict-one, verdict-more}
+use Rattle.exam.proofs.parsed.verdict.Statement.{statement}
+use Rattle.exam.proofs.parsed.verdict.Tie as tie
+
+returns : tie.Need-returns
+returns c list e = verdict-none list (e ∙ c .match .keys1)
+
+returns-2 : tie.Need-returns-2
+returns-2 c list e = verdict-one list (e ∙ c .match .keys2)
+
+returns-3 : tie.Need-returns-3
+returns-3 c list e = verdict-more list (λ k. c .match .rest .0 .1 (sym e ∙ k)) (λ k. c .match .rest .1 (sym e ∙ k))
+
+pub verdict-spec : {M : Type 1} → statement M
+verdict-spec = tie.close (tie.spec returns returns-2 returns-3)

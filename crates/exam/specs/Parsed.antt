@@ -1,0 +1,40 @@
+-- The operations on a track and a position, once the bytes are read: what they are given, and what they promise.
+use Prim.Native.Nat.{ℕ, _*_, _≤_, _<_}
+use mathlib.Core.List.{List, _++_}
+use mathlib.Core.Path.{_≡_}
+use lib.ListN.{length, drop}
+use Rattle.model.specs.Track.{Track}
+use Rattle.model.specs.Position.{Position, at}
+use Rattle.model.specs.Accepted.{Laid}
+use Rattle.rules.specs.Collapse.{CollapseAnswer}
+use Rattle.rules.specs.Key.{KeyAnswer}
+
+-- the track of these numbers and ends
+abbrev pub trackOf : ℕ → ℕ → ℕ → List ℕ → Track
+trackOf points home zones ends = record { points = points; home = home; zones = zones; ends = ends }
+
+-- a position laid on a track of at most 64 points and 96 zones, with two ends for each zone, and carriers 1 to 255
+pub record Ready (t : Track) (p : Position) : Type 0 where
+  pub laid : Laid t p
+  pub points-most : t .points ≤ 64
+  pub zones-most : t .zones ≤ 96
+  pub ends-count : length (t .ends) ≡ 2 * t .zones
+  pub numbers : (z : ℕ) → at p z < 512
+
+-- what was lent, with these numbers written from its start; the rest stays as it was
+abbrev pub overwritten : List ℕ → List ℕ → List ℕ
+overwritten written lent = written ++ drop (length written) lent
+
+-- a result and the list at exit are a collapse's answer
+pub record CollapseGiven (a : CollapseAnswer) (list : List ℕ) (number count : ℕ) (list′ : List ℕ) : Type 0 where
+  pub number-is : number ≡ a .number
+  pub count-is : count ≡ length (a .list)
+  pub list-is : list′ ≡ overwritten (a .list) list
+
+-- a result and the plan and list at exit are a key's answer
+pub record KeyGiven (a : KeyAnswer) (plan list : List ℕ) (verdict words count : ℕ) (plan′ list′ : List ℕ) : Type 0 where
+  pub verdict-is : verdict ≡ a .verdict
+  pub words-are : words ≡ length (a .plan)
+  pub count-is : count ≡ length (a .list)
+  pub plan-is : plan′ ≡ overwritten (a .plan) plan
+  pub list-is : list′ ≡ overwritten (a .list) list

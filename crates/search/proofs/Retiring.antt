@@ -1,0 +1,106 @@
+-- A carrier that leaves: its zone is freed, and the zones in order that are still held are those of the carriers still out.
+-- A zone is looked at before and after; no carrier stands in two.
+use Prim.Native.Nat.{ℕ, suc, _+_, _*_, _/_, _%_, _≤_, _<_}
+use mathlib.Core.Path.{_≡_, refl, sym, _∙_, ap, ap₂, subst}
+use mathlib.Core.List.{List, [], _∷_, map, List·Memᴰ, Memᴰ·map, Memᴰ·cast}
+use mathlib.Core.Bool.{Bool, true, false, not}
+use mathlib.Core.Option.{Option, none, some}
+use native.Mathlib.Omega.{arith}
+use lib.ListN.{length, getD, set, take, length-set}
+use lib.Seq.{getD-set-same, getD-set-other, ext-getD}
+use lib.Dec.{eqb}
+use borrow.Author.Tests.{eqb-true, eqb-false, eq-eqb, ne-eqb}
+use Rattle.model.specs.Lists.{consIf, keep}
+use Rattle.model.specs.Track.{Track, headingOf}
+use Rattle.model.specs.Position.{Position, at, carrierOf, isFree, Stands, Once, retire, outs}
+use Rattle.model.proofs.ListLaws.{keep-all}
+use Rattle.model.proofs.PositionLaws.{length-without, at-without-gone, at-without-kept, free-without, held-stands, stands-held, mem-outs, outs-retire}
+use Rattle.rules.specs.Routes.{Entry}
+use Rattle.rules.specs.Key.{nexts, zoneFor, routeFrom, leastRoute, goesElse, firstToGo}
+use Rattle.carriers.specs.Order.{carriersIn, Sorted}
+use Rattle.search.specs.Order.{InOrder}
+
+-- the zone of the carrier that leaves is freed, and no other
+pub retire-set : (p : Position) (z : ℕ) → Once p → z < length p → (carrierOf (at p z) ≡ 0 → ⊥) → retire (carrierOf (at p z)) p ≡ set p z 0
+retire-set p z once h held =
+    ext-getD 0 (retire (carrierOf (at p z)) p) (set p z 0) (length-without (eqb (carrierOf (at p z))) p ∙ sym (length-set p z 0))
+    (λ j l. go j (rw length-without at l) (eqb j z) refl (eqb (carrierOf (at p z)) (carrierOf (at p j))) refl)
+  where
+    go : (j : ℕ) → j < length p → (t : Bool) → eqb j z ≡ t → (s : Bool) → eqb (carrierOf (at p z)) (carrierOf (at p j)) ≡ s → at (retire (carrierOf (at p z)) p) j ≡ at (set p z 0) j
+    go j l true e s d =
+        subst (λ (i : ℕ). at (retire (carrierOf (at p z)) p) i ≡ at (set p z 0) i) (sym (eqb-true j z e))
+        (at-without-gone (eqb (carrierOf (at p z))) p z (eq-eqb (carrierOf (at p z)) (carrierOf (at p z)) refl) ∙ sym (getD-set-same p z 0 0 h))
+    go j l false e false d = at-without-kept (eqb (carrierOf (at p z))) p j d ∙ sym (getD-set-other p z j 0 0 (eqb-false j z e))
+    go j l false e true d =
+        let same : carrierOf (at p z) ≡ carrierOf (at p j) = eqb-true _ _ d in
+        let there : Stands p (carrierOf (at p z)) (2 * j + headingOf (at p j)) = subst (λ (c : ℕ). Stands p c (2 * j + headingOf (at p j))) (sym same) (held-stands p j l (λ n. held (same ∙ n))) in
+        let one : 2 * z + headingOf (at p z) ≡ 2 * j + headingOf (at p j) = once _ _ _ (held-stands p z h held) there in
+        absurd (eqb-false j z e (omega arith))
+
+-- the carriers of the held zones, without the one that leaves
+retire-held : (c : ℕ) (p : Position) (zs : List ℕ)
+    → carriersIn (retire c p) (keep (λ z. not (isFree (retire c p) z)) zs) ≡ keep (λ d. not (eqb c d)) (carriersIn p (keep (λ z. not (isFree p z)) zs))
+retire-held c p [] = refl
+retire-held c p (z ∷ zs) = go (isFree p z) refl (eqb c (carrierOf (at p z))) refl (retire-held c p zs)
+  where
+    was : List ℕ
+    was = keep (λ z. not (isFree p z)) zs
+
+    is : List ℕ
+    is = keep (λ z. not (isFree (retire c p) z)) zs
+
+    skips : at (retire c p) z ≡ 0 → carriersIn (retire c p) (consIf (not (isFree (retire c p) z)) z is) ≡ carriersIn (retire c p) is
+    skips e = ap (λ (b : Bool). carriersIn (retire c p) (consIf (not b) z is)) (eq-eqb (at (retire c p) z) 0 e)
+
+    go : (f : Bool) → isFree p z ≡ f → (t : Bool) → eqb c (carrierOf (at p z)) ≡ t → carriersIn (retire c p) is ≡ keep (λ d. not (eqb c d)) (carriersIn p was)
+        → carriersIn (retire c p) (consIf (not (isFree (retire c p) z)) z is) ≡ keep (λ d. not (eqb c d)) (carriersIn p (consIf (not f) z was))
+    go true e t d ih = skips (free-without (eqb c) p z (eqb-true (at p z) 0 e)) ∙ ih
+    go false e true d ih =
+        skips (at-without-gone (eqb c) p z d) ∙
+        ih ∙
+        ap (λ (b : Bool). consIf (not b) (carrierOf (at p z)) (keep (λ d. not (eqb c d)) (carriersIn p was))) (sym d)
+    go false e false d ih =
+        let kept : at (retire c p) z ≡ at p z = at-without-kept (eqb c) p z d in
+        ap (λ (b : Bool). carriersIn (retire c p) (consIf (not b) z is)) (ap (λ (v : ℕ). eqb v 0) kept ∙ e) ∙
+        ap₂ (λ (v : ℕ) (l : List ℕ). carrierOf v ∷ l) kept ih ∙
+        ap (λ (b : Bool). consIf (not b) (carrierOf (at p z)) (keep (λ d. not (eqb c d)) (carriersIn p was))) (sym d)
+
+pub in-order-retire : {p : Position} {order : List ℕ} {count : ℕ} (c : ℕ) → Once p → InOrder p order count → InOrder (retire c p) order count
+in-order-retire {p} {order} {count} c once o = record {
+  zones = record { room = o .zones .room; inside = λ z m. rw length-without (o .zones .inside z m) };
+  carriers = retire-held c p (take count order) ∙ ap (keep (λ d. not (eqb c d))) (o .carriers) ∙ sym (outs-retire c p once);
+}
+
+-- at first each of the zones in order is held
+pub sorted-in-order : {p : Position} {order : List ℕ} {count : ℕ} → Sorted p order count → InOrder p order count
+sorted-in-order {p} {order} {count} s = record {
+  zones = s .zones;
+  carriers = ap (carriersIn p) (keep-all (λ z. not (isFree p z)) (take count order) (λ z m. ap not (ne-eqb (at p z) 0 (held z m)))) ∙ s .carriers;
+}
+  where
+    held : (z : ℕ) → List·Memᴰ z (take count order) → at p z ≡ 0 → ⊥
+    held z m e =
+        let out = mem-outs p (subst (λ (l : List ℕ). List·Memᴰ (carrierOf (at p z)) l) (s .carriers) (Memᴰ·map (λ z. carrierOf (at p z)) m)) in
+        out .1 .numbered (omega arith)
+
+-- no route depends on the count of points
+
+module _ (points q home zones : ℕ) (ends p : List ℕ) where
+  abbrev t : Track
+  t = record { points = points; home = home; zones = zones; ends = ends }
+
+  abbrev t′ : Track
+  t′ = record { points = q; home = home; zones = zones; ends = ends }
+
+  route-points : (c : ℕ) → leastRoute t p c ≡ leastRoute t′ p c
+  unfolding leastRoute nexts
+  route-points c = go (zoneFor p c)
+    where
+      go : (o : Option ℕ) → routeFrom t p c o ≡ routeFrom t′ p c o
+      go none = refl
+      go (some z) = refl
+
+  pub first-points : (cs : List ℕ) → firstToGo t p cs ≡ firstToGo t′ p cs
+  unfolding firstToGo
+  first-points [] = refl
+  first-points (c ∷ cs) = ap₂ (λ (r : Option (List ℕ)) (o : Option Entry). goesElse c r o) (route-points c) (first-points cs)

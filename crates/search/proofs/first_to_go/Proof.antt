@@ -1,0 +1,178 @@
+-- `first_to_go` meets its contract: the carriers left to try decide who goes, and what is left of a carrier's search decides whether it does.
+use Prim.Native.Nat.{_*_, _-_}
+use mathlib.Core.Path.{sym, _∙_}
+use native.Mathlib.Omega.{arith}
+use denote.Ref.{now}
+use Rattle.search.proofs.Trying.{Looking, looking-few, looking-more, Tried, tried-none, nobody-goes, Next, next-few, next-in-order, next-inside, next-free, Turn, turn-standing, turn-in-words, turn-in-froms, turn-looks, turn-words, turn-froms, turn-past, turn-inside, turn-goes, turn-offers, turn-leaves}
+use Rattle.search.proofs.first_to_go.Statement.{statement}
+use Rattle.search.proofs.first_to_go.Tie as tie
+
+abbrev Inv-loop : tie.InvT-loop
+Inv-loop home zones ends position first after order count words₀ froms₀ k zone held carrier standing seen₀ found₀ i₀ words froms seen found i =
+    Looking home zones ends position carrier standing words₀ froms₀ words froms seen found i
+
+abbrev μ-loop : tie.MeasureT-loop
+μ-loop home zones ends position first after order count words₀ froms₀ k zone held carrier standing seen₀ found₀ i₀ words froms seen found i = 2 * zones - i
+
+abbrev Inv-carriers : tie.InvT-carriers
+Inv-carriers home zones ends position first after order count words₀ froms₀ k₀ words froms k = Tried home zones ends position order count words₀ froms₀ words froms k
+
+abbrev μ-carriers : tie.MeasureT-carriers
+μ-carriers home zones ends position first after order count words₀ froms₀ k₀ words froms k = count - k
+
+-- the function's entry, from the head of the outer loop
+abbrev start : tie.At-carriers Inv-loop μ-loop Inv-carriers μ-carriers → tie.Start Inv-loop μ-loop Inv-carriers μ-carriers
+start a = a .before .before .before .before .before .before .before .before
+
+module _ (e : tie.Else1 Inv-loop μ-loop Inv-carriers μ-carriers) where
+  abbrev a : tie.Start Inv-loop μ-loop Inv-carriers μ-carriers
+  a = start (e .before)
+
+  next :
+      Next (a .args .home) (a .args .zones) (now (a .args .ends)) (now (a .args .position)) (now (a .args .first)) (now (a .args .after)) (now (a .args .order)) (a .args .count)
+      (now (a .args .words)) (now (a .args .froms)) (e .before .carriers .words) (e .before .carriers .froms) (e .before .carriers .k)
+  next = record { seeking = a .pre; tried = e .before .carriers .inv; another = e .if1 .left }
+
+module _ (e : tie.Else2 Inv-loop μ-loop Inv-carriers μ-carriers) where
+  abbrev h : tie.At-carriers Inv-loop μ-loop Inv-carriers μ-carriers
+  h = e .before .before .before .before
+
+  turn :
+      Turn (start h .args .home) (start h .args .zones) (now (start h .args .ends)) (now (start h .args .position)) (now (start h .args .first)) (now (start h .args .after)) (now (start h .args .order)) (start h .args .count)
+      (now (start h .args .words)) (now (start h .args .froms)) (h .carriers .words) (h .carriers .froms) (h .carriers .k)
+  turn = record { next = next (e .before .before .before); held = e .if2 .left }
+
+carriers-holds : tie.Need-carriers-holds Inv-loop μ-loop Inv-carriers μ-carriers
+carriers-holds c = tried-none (c .before .before .before .before .before .before .before .pre) (c .before .before .before .before .before .before .before .args .home)
+
+mul-zone : tie.Need-mul-zone Inv-loop μ-loop Inv-carriers μ-carriers
+mul-zone c = omega (arith, next-in-order (next c), start (c .before) .good)
+
+shared-slice-read-zone : tie.Need-shared-slice-read-zone Inv-loop μ-loop Inv-carriers μ-carriers
+shared-slice-read-zone c = next-in-order (next (c .before))
+
+add-k : tie.Need-add-k Inv-loop μ-loop Inv-carriers μ-carriers
+add-k c = omega (arith, next-in-order (next (c .before)), start (c .before .before) .good)
+
+mul-held : tie.Need-mul-held Inv-loop μ-loop Inv-carriers μ-carriers
+mul-held c = omega (arith, next-inside (next (c .before)), start (c .before .before) .good)
+
+shared-slice-read-held : tie.Need-shared-slice-read-held Inv-loop μ-loop Inv-carriers μ-carriers
+shared-slice-read-held c = next-inside (next (c .before .before))
+
+carriers-less : tie.Need-carriers-less Inv-loop μ-loop Inv-carriers μ-carriers
+carriers-less c = omega (arith, next-few (next (c .before .before .before)))
+
+carriers-again : tie.Need-carriers-again Inv-loop μ-loop Inv-carriers μ-carriers
+carriers-again c = next-free (next (c .before .before .before)) (c .if2 .taken)
+
+mul-standing : tie.Need-mul-standing Inv-loop μ-loop Inv-carriers μ-carriers
+mul-standing c = omega (arith, turn-standing (turn c), start (c .before .before .before .before) .pre .few)
+
+cast-standing : tie.Need-cast-standing Inv-loop μ-loop Inv-carriers μ-carriers
+cast-standing c = omega arith
+
+add-standing : tie.Need-add-standing Inv-loop μ-loop Inv-carriers μ-carriers
+add-standing c = omega (arith, turn-standing (turn c), start (c .before .before .before .before) .pre .few)
+
+array-write-seen : tie.Need-array-write-seen Inv-loop μ-loop Inv-carriers μ-carriers
+array-write-seen c = omega (arith, turn-standing (turn c), start (c .before .before .before .before) .pre .few)
+
+slice-write-words : tie.Need-slice-write-words Inv-loop μ-loop Inv-carriers μ-carriers
+slice-write-words c = turn-in-words (turn c)
+
+slice-write-froms : tie.Need-slice-write-froms Inv-loop μ-loop Inv-carriers μ-carriers
+slice-write-froms c = turn-in-froms (turn c)
+
+loop-holds : tie.Need-loop-holds Inv-loop μ-loop Inv-carriers μ-carriers
+loop-holds c = turn-looks (turn c)
+
+carriers-less-2 : tie.Need-carriers-less-2 Inv-loop μ-loop Inv-carriers μ-carriers
+carriers-less-2 c = omega (arith, next-few (next (c .before .before .before .before .before)))
+
+carriers-again-2 : tie.Need-carriers-again-2 Inv-loop μ-loop Inv-carriers μ-carriers
+carriers-again-2 c = turn-past (turn (c .before .before)) (c .before .loop .inv) (c .loop-test .left)
+
+mul-w : tie.Need-mul-w Inv-loop μ-loop Inv-carriers μ-carriers
+mul-w c = omega (arith, looking-few (c .before .loop .inv) (c .loop-test .taken), start (c .before .before .before .before .before .before) .pre .few)
+
+slice-read-w : tie.Need-slice-read-w Inv-loop μ-loop Inv-carriers μ-carriers
+slice-read-w c = turn-inside (turn (c .before .before .before)) (c .before .before .loop .inv) (c .before .loop-test .taken)
+
+leaving-requires : tie.Need-leaving-requires Inv-loop μ-loop Inv-carriers μ-carriers
+leaving-requires c κs = turn-leaves (turn (c .before .before .before)) (c .before .before .loop .inv) (c .before .loop-test .taken)
+
+slice-aggregate-offer-next :
+    tie.Need-slice-aggregate-offer-next Inv-loop μ-loop Inv-carriers μ-carriers
+slice-aggregate-offer-next c = sym (c .before .before .before .before .before .before .before .loop .inv .full)
+
+offer-next-requires : tie.Need-offer-next-requires Inv-loop μ-loop Inv-carriers μ-carriers
+offer-next-requires c κs = turn-offers (turn (c .before .before .before .before .before .before .before .before)) (c .before .before .before .before .before .before .before .loop .inv) (c .before .before .before .before .before .before .loop-test .taken)
+
+add-i : tie.Need-add-i Inv-loop μ-loop Inv-carriers μ-carriers
+add-i c = omega (arith, looking-few (c .before .before .before .before .before .before .before .before .before .before .before .before .before .loop .inv) (c .before .before .before .before .before .before .before .before .before .before .before .before .loop-test .taken), start (c .before .before .before .before .before .before .before .before .before .before .before .before .before .before .before .before .before .before) .pre .few)
+
+loop-less : tie.Need-loop-less Inv-loop μ-loop Inv-carriers μ-carriers
+loop-less c = omega (arith, looking-few (c .before .before .before .before .before .before .before .before .before .before .before .before .before .loop .inv) (c .before .before .before .before .before .before .before .before .before .before .before .before .loop-test .taken))
+
+loop-again : tie.Need-loop-again Inv-loop μ-loop Inv-carriers μ-carriers
+loop-again c = looking-more (c .before .before .before .before .before .before .before .before .before .before .before .before .before .loop .inv) (c .before .before .before .before .before .before .before .before .before .before .before .before .loop-test .taken) (λ e. c .before .before .before .before .before .before .before .before .before .if3 .left (c .before .before .before .before .before .before .before .before .before .before .leaving .ensures ∙ e)) (c .before .before .before .before .before .offer-next .ensures)
+    (c .before .before .before .before .before .offer-next .kept .1 .1 .1 .1 .1 .1 .1 .1 .1 .0) (c .before .before .before .before .before .offer-next .kept .1 .1 .1 .1 .1 .1 .1 .1 .1 .1 .0) (c .before .before .before .before .before .offer-next .kept .1 .1 .1 .1 .1 .1 .1 .1 .1 .1 .1 .0)
+
+same-length : tie.Need-same-length Inv-loop μ-loop Inv-carriers μ-carriers
+same-length c = c .before .carriers .inv .same-words
+
+same-length-2 : tie.Need-same-length-2 Inv-loop μ-loop Inv-carriers μ-carriers
+same-length-2 c = c .before .carriers .inv .same-froms
+
+returns : tie.Need-returns Inv-loop μ-loop Inv-carriers μ-carriers
+returns c = nobody-goes (start (c .before) .pre) (start (c .before) .args .home) (c .before .carriers .inv) (c .if1 .taken)
+
+same-length-3 : tie.Need-same-length-3 Inv-loop μ-loop Inv-carriers μ-carriers
+same-length-3 c = turn-words (turn (c .before .before .before .before .before)) (c .before .before .before .before .loop .inv)
+
+same-length-4 : tie.Need-same-length-4 Inv-loop μ-loop Inv-carriers μ-carriers
+same-length-4 c = turn-froms (turn (c .before .before .before .before .before)) (c .before .before .before .before .loop .inv)
+
+returns-2 : tie.Need-returns-2 Inv-loop μ-loop Inv-carriers μ-carriers
+returns-2 c = turn-goes (turn (c .before .before .before .before .before)) (c .before .before .before .before .loop .inv) (c .before .before .before .loop-test .taken) (sym (c .before .leaving .ensures) ∙ c .if3 .taken)
+
+pub first-to-go-spec : {M : Type 1} → statement M
+first-to-go-spec =
+    tie.close
+    (tie.spec
+    Inv-loop
+    μ-loop
+    Inv-carriers
+    μ-carriers
+    carriers-holds
+    mul-zone
+    shared-slice-read-zone
+    add-k
+    mul-held
+    shared-slice-read-held
+    carriers-less
+    carriers-again
+    mul-standing
+    cast-standing
+    add-standing
+    array-write-seen
+    slice-write-words
+    slice-write-froms
+    loop-holds
+    carriers-less-2
+    carriers-again-2
+    mul-w
+    slice-read-w
+    leaving-requires
+    slice-aggregate-offer-next
+    offer-next-requires
+    add-i
+    loop-less
+    loop-again
+    same-length
+    same-length-2
+    returns
+    same-length-3
+    same-length-4
+    returns-2)

@@ -1,0 +1,48 @@
+-- The carrier that leaves next: what the search over the carriers asks and gives.
+use Prim.Native.Nat.{ℕ, _*_, _≤_, _<_}
+use mathlib.Core.List.{List}
+use mathlib.Core.Path.{_≡_}
+use mathlib.Core.Option.{Option, none, some}
+use lib.ListN.{length}
+use Rattle.model.specs.Track.{Track}
+use Rattle.model.specs.Position.{Position, at, carrierOf, Once, outs}
+use Rattle.rules.specs.Routes.{Entry}
+use Rattle.rules.specs.Key.{firstToGo}
+use Rattle.search.specs.Order.{InOrder}
+use Rattle.search.specs.Searching.{Tables}
+use Rattle.search.specs.Written.{routeTo, Readable}
+use Rattle.search.specs.declared.Goes.{Goes}
+use Rattle.search.specs.declared.Goes.the-variants.{From, Nobody}
+
+-- a track but for its count of points, which no route depends on
+abbrev pub homeward : ℕ → ℕ → List ℕ → Track
+homeward home zones ends = record { points = 0; home = home; zones = zones; ends = ends }
+
+pub record Seeking (zones : ℕ) (ends p first after order : List ℕ) (count : ℕ) (words froms : List ℕ) : Type 0 where
+  pub tables : Tables zones ends p first after
+  pub once : Once p
+  pub plain : (z : ℕ) → at p z ≡ 1 → ⊥
+  pub few : zones ≤ 96
+  pub room-words : 2 * zones ≤ length words
+  pub room-froms : 2 * zones ≤ length froms
+  pub in-order : InOrder p order count
+
+-- the carrier of a zone with the route to a place of the queue, or none
+abbrev pub entryGiven : Position → List ℕ → List ℕ → Goes → Option Entry
+entryGiven p words froms (From zone place) = some (record { carrier = carrierOf (at p zone); words = routeTo words froms place })
+entryGiven p words froms Nobody = none
+
+-- a carrier stands in the zone, and the route can be read
+pub record Given (zones : ℕ) (p : Position) (words froms : List ℕ) (zone place : ℕ) : Type 0 where
+  pub inside : zone < length p
+  pub numbered : carrierOf (at p zone) ≡ 0 → ⊥
+  pub few : place < 2 * zones
+  pub readable : Readable words froms place
+
+abbrev pub GivenBy : ℕ → Position → List ℕ → List ℕ → Goes → Type 0
+GivenBy zones p words froms (From zone place) = Given zones p words froms zone place
+GivenBy zones p words froms Nobody = Unit {0}
+
+pub record Sought (home zones : ℕ) (ends p words froms : List ℕ) (r : Goes) : Type 0 where
+  pub entry : entryGiven p words froms r ≡ firstToGo (homeward home zones ends) p (outs p)
+  pub given : GivenBy zones p words froms r

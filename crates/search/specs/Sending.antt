@@ -1,0 +1,30 @@
+-- Sending home all that can go, on a parsed track and position: what is asked, and what the plan and the position are then.
+use Prim.Native.Nat.{ℕ, _+_, _*_, _≤_, _<_}
+use mathlib.Core.List.{List, _++_}
+use mathlib.Core.Path.{_≡_}
+use lib.ListN.{length, drop}
+use Rattle.model.specs.Track.{Track}
+use Rattle.model.specs.Position.{Position, at, outs}
+use Rattle.model.specs.Accepted.{Laid}
+use Rattle.rules.specs.Key.{run, planWords}
+
+abbrev pub trackOf : ℕ → ℕ → ℕ → List ℕ → Track
+trackOf points home zones ends = record { points = points; home = home; zones = zones; ends = ends }
+
+-- a position laid on a track of the sizes of document 01, carriers of 16 bits, and room for the plan of all of them
+pub record Ready (points home zones : ℕ) (ends p plan : List ℕ) : Type 0 where
+  pub laid : Laid (trackOf points home zones ends) p
+  pub points-most : points ≤ 64
+  pub zones-most : zones ≤ 96
+  pub ends-count : length ends ≡ 2 * zones
+  pub numbers : (z : ℕ) → at p z < 131072
+  pub room : length (outs p) * (2 + 2 * zones) ≤ length plan
+
+-- the words of the key's plan
+abbrev pub planOf : Track → Position → List ℕ
+planOf t p = planWords (run t p .plan)
+
+pub record SentHome (points home zones : ℕ) (ends p plan p′ plan′ : List ℕ) (r : ℕ) : Type 0 where
+  pub count : r ≡ length (planOf (trackOf points home zones ends) p)
+  pub written : plan′ ≡ planOf (trackOf points home zones ends) p ++ drop (length (planOf (trackOf points home zones ends) p)) plan
+  pub last : p′ ≡ run (trackOf points home zones ends) p .last

@@ -1,0 +1,118 @@
+// The key's search: while any carrier can go home, the lowest-numbered that can leaves next, by its least route.
+mod queue;
+mod route;
+mod tables;
+
+ghost use Rattle.search.specs.Leaving.{Seeking, Sought};
+ghost use Rattle.search.specs.Sending.{Ready, SentHome};
+
+// The zone of the carrier that can go, and the place in the queue of the last word of its route; or none can.
+pub enum Goes {
+    From(usize, usize),
+    Nobody,
+}
+
+// The lowest-numbered carrier that can go home: the zones in `order` are in ascending number of their carriers; those that are free now are passed over.
+// Each carrier's search goes on until a word in the queue leaves at home, or none is left.
+fn first_to_go(
+    home: usize,
+    zones: usize,
+    ends: &[usize],
+    position: &[u32],
+    first: &[usize],
+    after: &[usize],
+    order: &[usize],
+    count: usize,
+    words: &mut [usize],
+    froms: &mut [usize],
+) -> Goes
+    requires { ⌜ Seeking zones (now ends) (now position) (now first) (now after) (now order) count (now words) (now froms) ⌝ }
+    ensures { λ r. ⌜ Sought home zones (now (ends .entry)) (now (position .entry)) (now (words .exit)) (now (froms .exit)) r ⌝ }
+{
+    let mut k = 0;
+    'carriers: loop {
+        if k == count {
+            break 'carriers Goes::Nobody;
+        }
+        let zone = order[k];
+        k += 1;
+        let held = position[zone];
+        if held == 0 {
+            continue;
+        }
+        let carrier = held / 2;
+        let standing = 2 * zone + (held % 2) as usize;
+        let mut seen = [0u8; 192];
+        seen[standing] = 1;
+        words[0] = standing;
+        froms[0] = 0;
+        let mut found = 1;
+        let mut i = 0;
+        while i < found {
+            let w = words[i];
+            if tables::leaving(ends, w) == home {
+                break 'carriers Goes::From(zone, i);
+            }
+            found = queue::offer_next(
+                zones,
+                ends,
+                position,
+                first,
+                after,
+                carrier,
+                w,
+                i,
+                found,
+                words,
+                froms,
+                &mut seen,
+            );
+            i += 1;
+        }
+    }
+}
+
+// Sends home all that can go: the plan's words are stored, and each carrier that goes is taken off. Gives the count of words stored.
+pub fn send_home(
+    points: usize,
+    home: usize,
+    zones: usize,
+    ends: &[usize],
+    position: &mut [u32],
+    plan: &mut [u16],
+) -> usize
+    requires { ⌜ Ready points home zones (now ends) (now position) (now plan) ⌝ }
+    ensures { λ r. ⌜ SentHome points home zones (now (ends .entry)) (now (position .entry)) (now (plan .entry)) (now (position .exit)) (now (plan .exit)) r ⌝ }
+{
+    let beyond = 2 * zones;
+    let mut first = [beyond; 64];
+    let mut after = [0usize; 192];
+    tables::link_words(zones, ends, &mut first, &mut after);
+    let mut order = [0usize; 96];
+    let count = carriers::order_carriers(position, &mut order);
+    let mut words = [0usize; 192];
+    let mut froms = [0usize; 192];
+    let mut left = count;
+    let mut at = 0;
+    while 0 < left {
+        let goes = first_to_go(
+            home,
+            zones,
+            ends,
+            position,
+            &first,
+            &after,
+            &order,
+            count,
+            &mut words,
+            &mut froms,
+        );
+        let Goes::From(zone, place) = goes else {
+            return at;
+        };
+        at = route::write_entry(position[zone] / 2, place, &words, &froms, plan, at);
+        position[zone] = 0;
+        left -= 1;
+    }
+    at
+}

@@ -14,7 +14,9 @@ use Rattle.model.specs.Accepted.{Laid}
 use Rattle.rules.specs.Tries.{Move, Allowed, enters, arrives, Moved, done, forbidden, Moves, none, more}
 use Rattle.rules.specs.Key.{named}
 use Rattle.rules.specs.Collapse.{standing}
-use Rattle.model.proofs.PositionLaws.{zone-rev, rev-below, zone-below, same-zone, stands-below, laid-stands, laid-retire, moved-laid, at-without-kept}
+use Rattle.model.proofs.WordLaws.{zone-rev, rev-below, zone-below, same-zone}
+use Rattle.model.proofs.PositionLaws.{stands-below, laid-stands, laid-retire, at-without-kept}
+use Rattle.model.proofs.MoveLaws.{moved-laid}
 use Rattle.blocking.proofs.Standings.{standing-zone}
 use Rattle.blocking.proofs.HomeSet.{Closed}
 use Rattle.blocking.proofs.HomeClass.{class-closed, home-class}

@@ -8,7 +8,8 @@ use Rattle.model.specs.Track.{Track, zoneOf, rev, start, leave}
 use Rattle.model.specs.Position.{Position, isFree, Stands}
 use Rattle.model.specs.Labels.{label}
 use Rattle.model.specs.Accepted.{Laid}
-use Rattle.model.proofs.PositionLaws.{zone-below, rev-below, stands-word, stands-below}
+use Rattle.model.proofs.WordLaws.{zone-below, rev-below}
+use Rattle.model.proofs.PositionLaws.{stands-word, stands-below}
 use Rattle.rules.specs.Collapse.{standing, joined, mergeAll}
 use Rattle.blocking.proofs.Standings.{stands-not-free}
 use Rattle.blocking.proofs.HomeSet.{Closed, HomeSet}

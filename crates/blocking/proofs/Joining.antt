@@ -13,7 +13,8 @@ use Rattle.model.specs.Position.{Position, isFree}
 use Rattle.model.specs.Labels.{label}
 use Rattle.model.specs.Accepted.{Laid}
 use Rattle.model.proofs.ListLaws.{mem-keep, keep-mem, mem-below, below-mem}
-use Rattle.model.proofs.PositionLaws.{rev-below, zone-below, leave-rev, same-zone, linked-word, linked-keeps}
+use Rattle.model.proofs.WordLaws.{rev-below, zone-below, leave-rev, same-zone}
+use Rattle.model.proofs.LinkLaws.{linked-word, linked-keeps}
 use Rattle.model.proofs.LabelLaws.{alike, ends, tied-keeps, length-joinZones, length-parts, joinZones-tied, tied-joinZones}
 use Rattle.rules.specs.Collapse.{freeParts, turns, joined}
 use Rattle.blocking.proofs.HomeSet.{Closed}

@@ -12,7 +12,8 @@ use Rattle.model.specs.Accepted.{Laid}
 use Rattle.rules.specs.Routes.{Step, goes, route}
 use Rattle.rules.specs.Tries.{NoneCanGo}
 use Rattle.rules.specs.Collapse.{freeParts, loopIn, turns, standing}
-use Rattle.model.proofs.PositionLaws.{zone-rev, rev-below, zone-below, leave-rev, same-zone, stands-carrier, stands-below}
+use Rattle.model.proofs.WordLaws.{zone-rev, rev-below, zone-below, leave-rev, same-zone}
+use Rattle.model.proofs.PositionLaws.{stands-carrier, stands-below}
 use Rattle.order.proofs.Within.{Within, stands-before}
 use Rattle.turning.specs.Walks.{Walk}
 use Rattle.turning.proofs.WalkLaws.{widen, walk-of-linked}

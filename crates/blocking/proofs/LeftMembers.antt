@@ -10,8 +10,11 @@ use Rattle.model.specs.Lists.{below, keep, Ascending}
 use Rattle.model.specs.Track.{Track, zoneOf, leave}
 use Rattle.model.specs.Position.{Position, at, carrierOf, isFree, Stands}
 use Rattle.model.specs.Accepted.{Laid}
-use Rattle.model.proofs.ListLaws.{both-ways, not-true-false, and-left, and-right, mem-below, below-mem, mem-keep, keep-mem, mem-ascending, ascending-mem, NoRepeats, ascending-strict, keep-ascending, below-ascending, ascending-no-repeats}
-use Rattle.model.proofs.PositionLaws.{zone-below, stands-carrier, stands-word, stands-below, laid-stands}
+use Rattle.model.proofs.BoolLaws.{both-ways, not-true-false, and-left, and-right}
+use Rattle.model.proofs.ListLaws.{mem-below, below-mem, mem-keep, keep-mem}
+use Rattle.model.proofs.AscendingLaws.{mem-ascending, ascending-mem, NoRepeats, ascending-strict, keep-ascending, below-ascending, ascending-no-repeats}
+use Rattle.model.proofs.WordLaws.{zone-below}
+use Rattle.model.proofs.PositionLaws.{stands-carrier, stands-word, stands-below, laid-stands}
 use Rattle.rules.specs.Collapse.{standing, mergeAll, left}
 use Rattle.blocking.proofs.Standings.{stands-not-free, standing-zone}
 use Rattle.blocking.proofs.Merging.{marked}

@@ -14,8 +14,9 @@ use Rattle.model.specs.Position.{Position, at, isFree, Stands}
 use Rattle.model.specs.Labels.{label}
 use Rattle.model.specs.Accepted.{Laid}
 use Rattle.rules.specs.Collapse.{freeParts, loopIn, turns, standing}
-use Rattle.model.proofs.ListLaws.{count-below-ext}
-use Rattle.model.proofs.PositionLaws.{stands-word, linked-mono}
+use Rattle.model.proofs.CountLaws.{count-below-ext}
+use Rattle.model.proofs.PositionLaws.{stands-word}
+use Rattle.model.proofs.LinkLaws.{linked-mono}
 use Rattle.model.proofs.LabelLaws.{parts-linked, linked-parts}
 use Rattle.turning.specs.Walks.{Walk}
 use Rattle.turning.proofs.Turning.{turns-with-loop, no-turn-without}

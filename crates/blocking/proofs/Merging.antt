@@ -14,8 +14,10 @@ use Rattle.model.specs.Track.{Track, rev, start, leave}
 use Rattle.model.specs.Position.{Position, at, carrierOf, isFree, outs}
 use Rattle.model.specs.Labels.{label}
 use Rattle.model.specs.Accepted.{Laid}
-use Rattle.model.proofs.ListLaws.{both-ways, and-left, and-right, mem-below, foldLeft-keeps, times-keeps}
-use Rattle.model.proofs.PositionLaws.{rev-below, laid-stands}
+use Rattle.model.proofs.BoolLaws.{both-ways, and-left, and-right}
+use Rattle.model.proofs.ListLaws.{mem-below, foldLeft-keeps, times-keeps}
+use Rattle.model.proofs.WordLaws.{rev-below}
+use Rattle.model.proofs.PositionLaws.{laid-stands}
 use Rattle.model.proofs.LabelLaws.{length-join, InJoin, join-same, same-join}
 use Rattle.rules.specs.Collapse.{standing, joined, Merging, leadsHome, mergeIf, mergeZone, mergeAll}
 use Rattle.blocking.proofs.HomeSet.{Closed}

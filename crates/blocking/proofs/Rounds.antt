@@ -15,7 +15,10 @@ use Rattle.model.specs.Track.{Track, start, leave}
 use Rattle.model.specs.Position.{Position, at, carrierOf, isFree, outs}
 use Rattle.model.specs.Labels.{label, join}
 use Rattle.model.specs.Accepted.{Laid}
-use Rattle.model.proofs.ListLaws.{both-ways, not-true-false, decided, and-left, and-right, length-below, mem-below, below-mem, any-below, any-below-false, count-mono, count-less, length-ascending, map-ext, getD-map-below, foldLeft-keeps, times-keeps}
+use Rattle.model.proofs.BoolLaws.{both-ways, not-true-false, decided, and-left, and-right}
+use Rattle.model.proofs.ListLaws.{length-below, mem-below, below-mem, any-below, any-below-false, count-mono, count-less, foldLeft-keeps, times-keeps}
+use Rattle.model.proofs.AscendingLaws.{length-ascending}
+use Rattle.model.proofs.PlaceLaws.{map-ext, getD-map-below}
 use Rattle.model.proofs.PositionLaws.{laid-numbered}
 use Rattle.rules.specs.Collapse.{standing, Merging, leadsHome, mergeIf, mergeZone, mergeAll}
 use Rattle.blocking.proofs.Merging.{marked, Grown, grown-same, grown-more, Sound, before, sound-before, after, after-marked, merge-cases, leads-held, leads-alike, alike-leads, leaves-in, round, sound-merge, sound-round, grown-merge}

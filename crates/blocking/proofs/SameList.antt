@@ -6,7 +6,7 @@ use mathlib.Core.Path.{_≡_}
 use Rattle.model.specs.Track.{Track, leave}
 use Rattle.model.specs.Position.{Position, Stands, Out}
 use Rattle.model.specs.Accepted.{Laid}
-use Rattle.model.proofs.ListLaws.{ascending-unique}
+use Rattle.model.proofs.AscendingLaws.{ascending-unique}
 use Rattle.rules.specs.Key.{named}
 use Rattle.rules.specs.Collapse.{left}
 use Rattle.order.proofs.Named.{named-ascending, named-out}

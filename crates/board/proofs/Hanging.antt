@@ -17,7 +17,8 @@ use Rattle.model.specs.Track.Linked.{here}
 use Rattle.model.specs.Labels.{label, parts}
 use Rattle.model.specs.Reading.{byte, pointsSaid, homeSaid, zonesSaid, endA, endB, outOfRange, badZone, trackSaid, apart}
 use Rattle.model.proofs.ListLaws.{any-below-false, all-below, below-all}
-use Rattle.model.proofs.PositionLaws.{rev-below, linked-trans, linked-word, linked-keeps}
+use Rattle.model.proofs.WordLaws.{rev-below}
+use Rattle.model.proofs.LinkLaws.{linked-trans, linked-word, linked-keeps}
 use Rattle.model.proofs.LabelLaws.{parts-linked, linked-parts}
 use Rattle.model.proofs.ReadingLaws.{start-said}
 use Rattle.points.specs.Sets.{hasBit, Ways, Reach, Grown}

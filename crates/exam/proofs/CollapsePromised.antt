@@ -9,7 +9,7 @@ use native.Mathlib.Omega.{arith}
 use lib.ListN.{length, take}
 use lib.Dec.{ltb}
 use borrow.Author.Tests.{eq-eqb, ne-eqb, ltb-true, ltb-false}
-use Rattle.model.proofs.ListLaws.{decided}
+use Rattle.model.proofs.BoolLaws.{decided}
 use Rattle.model.specs.Lists.{Ascending}
 use Rattle.model.specs.Track.{Track}
 use Rattle.model.specs.Position.{Position, outs}

@@ -11,7 +11,8 @@ use lib.Dec.{eqb}
 use Rattle.model.specs.Lists.{keep}
 use Rattle.model.specs.Track.{Track}
 use Rattle.model.specs.Position.{Position, at, carrierOf, outs}
-use Rattle.model.proofs.ListLaws.{count-length, length-ascending}
+use Rattle.model.proofs.ListLaws.{count-length}
+use Rattle.model.proofs.AscendingLaws.{length-ascending}
 use Rattle.order.proofs.Within.{Within}
 use Rattle.carriers.specs.Numbers.{Listable}
 use Rattle.exam.specs.Parsed.{Ready}

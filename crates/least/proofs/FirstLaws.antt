@@ -8,7 +8,8 @@ use mathlib.Core.Bool.{Bool, true, false}
 use mathlib.Core.Option.{Option, none, some, Option·some-injective}
 use native.Mathlib.Omega.{arith}
 use Rattle.model.specs.Lists.{orElse, first, Ascending}
-use Rattle.model.proofs.ListLaws.{both-ways, first-none}
+use Rattle.model.proofs.BoolLaws.{both-ways}
+use Rattle.model.proofs.ListLaws.{first-none}
 
 module _ {A : Type 0} where
   -- where a member passes, a first one is found

@@ -14,7 +14,9 @@ use borrow.Author.Tests.{ltb-true, ltb-false}
 use Rattle.model.specs.Lists.{below, first, Ascending}
 use Rattle.rules.specs.Search.{followed, goalIn, wordsTo, leastFrom}
 use Rattle.least.specs.Ways.{Way, ends, goes, Before, differs, later}
-use Rattle.model.proofs.ListLaws.{NoRepeats, both-ways, any-true, true-any, first-some, first-none, mem-below, below-mem, below-ascending}
+use Rattle.model.proofs.AscendingLaws.{NoRepeats, below-ascending}
+use Rattle.model.proofs.BoolLaws.{both-ways}
+use Rattle.model.proofs.ListLaws.{any-true, true-any, first-some, first-none, mem-below, below-mem}
 use Rattle.least.proofs.FirstLaws.{first-exists, first-ascending}
 use Rattle.least.proofs.RepeatLaws.{no-repeats-length}
 

@@ -7,7 +7,7 @@ use mathlib.Core.List.{List, [], _∷_, reverseAux, List·Memᴰ}
 use mathlib.Core.Bool.{Bool, true, false}
 use lib.Dec.{ltb}
 use borrow.Author.Tests.{ltb-true, ltb-false}
-use Rattle.model.proofs.ListLaws.{both-ways}
+use Rattle.model.proofs.BoolLaws.{both-ways}
 use Rattle.least.specs.Queue.{Queue}
 use Rattle.least.specs.Ways.{Way, ends, goes}
 use Rattle.least.proofs.QueueLaws.{size, wordAt}

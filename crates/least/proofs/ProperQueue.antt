@@ -6,7 +6,8 @@ use mathlib.Core.List.{List, List·Memᴰ, List·Memᴰ·not-nil}
 use mathlib.Core.Bool.{false}
 use native.Mathlib.Omega.{arith}
 use lib.ListN.{length}
-use Rattle.model.proofs.ListLaws.{NoRepeats, mem-getD}
+use Rattle.model.proofs.AscendingLaws.{NoRepeats}
+use Rattle.model.proofs.PlaceLaws.{mem-getD}
 use Rattle.least.specs.Queue.{Queue, inQueue, offer, offerAll}
 use Rattle.least.proofs.RepeatLaws.{appended-no-repeats, no-repeats-places, no-repeats-length}
 use Rattle.least.proofs.QueueLaws.{size, wordAt, fromAt, startQueue, added, offer-cases, offerAll-keeps, not-in-place, length-appended, size-added, word-old, from-old, added-places}

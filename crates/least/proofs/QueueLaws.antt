@@ -13,7 +13,9 @@ use lib.Seq.{getD-at, drop-cons}
 use lib.Dec.{eqb}
 use borrow.Author.Tests.{eqb-true, eq-eqb}
 use Rattle.model.specs.Lists.{consIf, keep}
-use Rattle.model.proofs.ListLaws.{both-ways, any-true, true-any, not-true-false, foldLeft-keeps, foldLeft-append, mem-getD, getD-mem}
+use Rattle.model.proofs.BoolLaws.{both-ways, not-true-false}
+use Rattle.model.proofs.ListLaws.{any-true, true-any, foldLeft-keeps, foldLeft-append}
+use Rattle.model.proofs.PlaceLaws.{mem-getD, getD-mem}
 use Rattle.least.specs.Queue.{Queue, inQueue, offerIf, offer, offerAll}
 
 -- how many words were found

@@ -10,7 +10,9 @@ use lib.ListN.{length, getD}
 use lib.Dec.{eqb}
 use borrow.Author.Tests.{eqb-true, eqb-false, ne-eqb, not-true}
 use Rattle.model.specs.Lists.{consIf, keep}
-use Rattle.model.proofs.ListLaws.{NoRepeats, mem-keep, keep-all, getD-mem}
+use Rattle.model.proofs.AscendingLaws.{NoRepeats}
+use Rattle.model.proofs.ListLaws.{mem-keep, keep-all}
+use Rattle.model.proofs.PlaceLaws.{getD-mem}
 
 pub appended-no-repeats : (l : List ℕ) (v : ℕ) → NoRepeats l → (List·Memᴰ v l → ⊥) → NoRepeats (l ++ (v ∷ []))
 appended-no-repeats [] v d h = (List·Memᴰ·not-nil, tt)

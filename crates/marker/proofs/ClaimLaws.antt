@@ -11,7 +11,7 @@ use lib.ListN.{length, getD, take, drop, length-drop, drop-of-length-le}
 use lib.Seq.{drop-cons, getD-take, length-take-le}
 use lib.Dec.{eqb}
 use borrow.Author.Tests.{eq-eqb, ne-eqb}
-use Rattle.model.proofs.ListLaws.{and-right, not-true-false}
+use Rattle.model.proofs.BoolLaws.{and-right, not-true-false}
 use Rattle.rules.specs.Sheet.{sameList}
 
 same-length : (l m : List ℕ) → sameList l m ≡ true → length l ≡ length m

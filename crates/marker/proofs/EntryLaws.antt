@@ -11,7 +11,7 @@ use lib.Dec.{ltb, eqb}
 use borrow.Author.Tests.{lt-ltb, le-ltb, eq-eqb, ne-eqb, not-true, not-false}
 use Rattle.model.specs.Track.{Track, zoneOf, headingOf}
 use Rattle.model.specs.Position.{Position, at, retire}
-use Rattle.model.proofs.ListLaws.{and-left, or-left, or-right}
+use Rattle.model.proofs.BoolLaws.{and-left, or-left, or-right}
 use Rattle.rules.specs.Sheet.{stillOut, follow, byRules, endsHome, markEntry}
 use Rattle.marker.specs.Marked.{trackOf, Ready, standsAt, routeNumber, entryNumber, EntryMarked}
 use Rattle.marker.proofs.FreedLaws.{standing-word, standing-stands, stands-out, freed}

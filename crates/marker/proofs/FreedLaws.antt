@@ -11,7 +11,9 @@ use borrow.Author.Tests.{ltb-true, eqb-true, eqb-false, eq-eqb, ne-eqb, not-true
 use Rattle.model.specs.Lists.{any}
 use Rattle.model.specs.Track.{zoneOf, headingOf}
 use Rattle.model.specs.Position.{Position, at, carrierOf, Stands, Once, retire}
-use Rattle.model.proofs.ListLaws.{and-left, and-right, true-any, getD-mem}
+use Rattle.model.proofs.BoolLaws.{and-left, and-right}
+use Rattle.model.proofs.ListLaws.{true-any}
+use Rattle.model.proofs.PlaceLaws.{getD-mem}
 use Rattle.model.proofs.PositionLaws.{length-without, at-without-gone, at-without-kept, stands-carrier, held-stands}
 use Rattle.rules.specs.Sheet.{stillOut}
 use Rattle.marker.specs.Marked.{standsAt}

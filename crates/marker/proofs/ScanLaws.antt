@@ -12,7 +12,7 @@ use lib.Dec.{eqb}
 use borrow.Author.Tests.{ne-eqb}
 use Rattle.model.specs.Lists.{keep, consIf, any}
 use Rattle.model.specs.Position.{Position, carrierOf}
-use Rattle.model.proofs.ListLaws.{length-ascending}
+use Rattle.model.proofs.AscendingLaws.{length-ascending}
 use Rattle.rules.specs.Sheet.{stillOut, markEnd}
 
 -- the test that a zone's number passes: it is carrier c's

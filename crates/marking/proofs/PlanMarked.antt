@@ -9,7 +9,8 @@ use lib.ListN.{length, take, drop, getD, length-append, length-drop, length-take
 use lib.Seq.{take-append-seam, drop-append-seam, length-take-le}
 use lib.Dec.{ltb, eqb}
 use borrow.Author.Tests.{ltb-true, ltb-false, le-ltb, eqb-true, eqb-false, eq-eqb, ne-eqb, not-true, not-false}
-use Rattle.model.proofs.ListLaws.{and-left, and-right, or-left, or-right, both-ways, true-any}
+use Rattle.model.proofs.BoolLaws.{and-left, and-right, or-left, or-right, both-ways}
+use Rattle.model.proofs.ListLaws.{true-any}
 use Rattle.model.proofs.PositionLaws.{mem-outs, outs-mem, laid-retire, stands-carrier}
 use Rattle.model.specs.Lists.{any}
 use Rattle.model.specs.Track.{Track, zoneOf}

@@ -8,7 +8,7 @@ use native.Mathlib.Omega.{arith}
 use lib.ListN.{length}
 use lib.Dec.{ltb, eqb}
 use borrow.Author.Tests.{ltb-true, lt-ltb, eqb-true, eq-eqb}
-use Rattle.model.proofs.ListLaws.{and-left, and-right, both-ways}
+use Rattle.model.proofs.BoolLaws.{and-left, and-right, both-ways}
 use Rattle.model.specs.Track.{Track, zoneOf, headingOf, leave}
 use Rattle.model.specs.Position.{Position, at, Stands}
 use Rattle.rules.specs.Routes.{Step, Onward, arrives, goes, Route, route}

@@ -10,7 +10,8 @@ use native.Mathlib.Nat.{le-refl}
 use lib.ListN.{length}
 use lib.Dec.{eqb}
 use borrow.Author.Tests.{eqb-true, eq-eqb, ne-eqb}
-use Rattle.model.proofs.ListLaws.{and-left, and-right, ascending-unique}
+use Rattle.model.proofs.BoolLaws.{and-left, and-right}
+use Rattle.model.proofs.AscendingLaws.{ascending-unique}
 use Rattle.model.specs.Lists.{Ascending}
 use Rattle.model.specs.Track.{Track}
 use Rattle.model.specs.Position.{Position}

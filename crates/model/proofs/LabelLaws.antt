@@ -12,8 +12,11 @@ use borrow.Author.Tests.{eqb-true, eqb-false, ne-eqb}
 use Rattle.model.specs.Lists.{below, keep, foldLeft}
 use Rattle.model.specs.Track.{Track, zoneOf, rev, start, leave, Linked, here, over}
 use Rattle.model.specs.Labels.{label, join, joinZone, joinZones, parts}
-use Rattle.model.proofs.ListLaws.{decided, getD-map, getD-below, length-below, mem-below, below-mem, mem-keep, keep-mem}
-use Rattle.model.proofs.PositionLaws.{rev-below, leave-rev, zone-below, same-zone, linked-trans, linked-sym, linked-same, linked-word}
+use Rattle.model.proofs.BoolLaws.{decided}
+use Rattle.model.proofs.PlaceLaws.{getD-map}
+use Rattle.model.proofs.ListLaws.{getD-below, length-below, mem-below, below-mem, mem-keep, keep-mem}
+use Rattle.model.proofs.WordLaws.{rev-below, leave-rev, zone-below, same-zone}
+use Rattle.model.proofs.LinkLaws.{linked-trans, linked-sym, linked-same, linked-word}
 
 -- one join
 

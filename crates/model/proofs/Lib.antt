@@ -1,4 +1,11 @@
+pub mod BoolLaws
 pub mod ListLaws
+pub mod CountLaws
+pub mod AscendingLaws
+pub mod PlaceLaws
+pub mod WordLaws
 pub mod PositionLaws
+pub mod MoveLaws
+pub mod LinkLaws
 pub mod LabelLaws
 pub mod ReadingLaws

@@ -1,71 +1,24 @@
--- Laws of words and positions: the two ways of a zone, what is left when carriers are taken off, who is out, and single moves.
--- Words go by linear arithmetic; positions by what stands in each zone.
-use Prim.Native.Nat.{ℕ, suc, _+_, _-_, _*_, _<_}
+-- Laws of positions: what is left when carriers are taken off, and who is out.
+-- By what stands in each zone.
+use Prim.Native.Nat.{ℕ, suc, _+_, _*_, _<_}
 use mathlib.Core.Path.{_≡_, refl, sym, _∙_, ap, ap₂, subst}
 use mathlib.Core.Logic.{_⊎_, inl, inr, ⊎-elim}
 use mathlib.Core.List.{List, [], _∷_, map, List·Memᴰ, Memᴰ·cast, Memᴰ·map, Memᴰ·of-map}
 use mathlib.Core.Bool.{Bool, true, false, not, cond, _||_}
 use native.Mathlib.Nat.{suc-inj}
 use native.Mathlib.Omega.{arith}
-use lib.ListN.{length, getD, set, length-map, length-set, List·getD-map}
-use lib.Seq.{getD-set-same, getD-set-other}
+use lib.ListN.{length, getD, length-map, List·getD-map}
 use lib.Dec.{eqb}
 use borrow.Author.Tests.{eqb-true, eqb-false, ne-eqb, not-true}
 use Rattle.model.specs.Lists.{consIf, keep, any, Ascending}
-use Rattle.model.specs.Track.{Track, zoneOf, headingOf, rev, start, leave, Linked, here, over}
+use Rattle.model.specs.Track.{Track, zoneOf, headingOf}
 use Rattle.model.specs.Position.{Position, at, carrierOf, isFree, Stands, Out, Once, without, retire, outs}
 use Rattle.model.specs.Accepted.{Laid}
-use Rattle.model.proofs.ListLaws.{decided, mem-keep, keep-mem, mem-ascending, ascending-mem, ascending-strict, ascending-unique, ascending-no-repeats, keep-ascending, keep-one-fewer, NoRepeats, any-true, any-false, mem-getD, getD-mem, map-ext}
-
--- words
-
-pub zone-rev : (w : ℕ) → zoneOf (rev w) ≡ zoneOf w
-zone-rev w = omega arith
-
-pub heading-rev : (w : ℕ) → headingOf (rev w) ≡ 1 - headingOf w
-heading-rev w = omega arith
-
-pub rev-rev : (w : ℕ) → rev (rev w) ≡ w
-rev-rev w = omega arith
-
-pub rev-differs : (w : ℕ) → rev w ≡ w → ⊥
-rev-differs w e = omega arith
-
-pub rev-below : (n w : ℕ) → w < 2 * n → rev w < 2 * n
-rev-below n w h = omega arith
-
-pub zone-below : (n w : ℕ) → w < 2 * n → zoneOf w < n
-zone-below n w h = omega arith
-
-pub below-zone : (n w : ℕ) → zoneOf w < n → w < 2 * n
-below-zone n w h = omega arith
-
-pub heading-small : (w : ℕ) → headingOf w < 2
-heading-small w = omega arith
-
-pub word-parts : (w : ℕ) → 2 * zoneOf w + headingOf w ≡ w
-word-parts w = omega arith
-
-pub zone-word : (z h : ℕ) → h < 2 → zoneOf (2 * z + h) ≡ z
-zone-word z h l = omega arith
-
-pub heading-word : (z h : ℕ) → h < 2 → headingOf (2 * z + h) ≡ h
-heading-word z h l = omega arith
-
-pub carrier-word : (c h : ℕ) → h < 2 → carrierOf (2 * c + h) ≡ c
-carrier-word c h l = omega arith
-
--- a zone has two words
-pub same-zone : (v w : ℕ) → zoneOf v ≡ zoneOf w → (v ≡ w) ⊎ (v ≡ rev w)
-same-zone v w e = go (eqb (headingOf v) (headingOf w)) refl
-  where
-    go : (t : Bool) → eqb (headingOf v) (headingOf w) ≡ t → (v ≡ w) ⊎ (v ≡ rev w)
-    go true q = let h : headingOf v ≡ headingOf w = eqb-true (headingOf v) (headingOf w) q in inl (omega arith)
-    go false q = let h : headingOf v ≡ headingOf w → ⊥ = eqb-false (headingOf v) (headingOf w) q in inr (omega arith)
-
-module _ (t : Track) where
-  pub leave-rev : (w : ℕ) → leave t (rev w) ≡ start t w
-  leave-rev w = ap (start t) (rev-rev w)
+use Rattle.model.proofs.BoolLaws.{decided}
+use Rattle.model.proofs.ListLaws.{mem-keep, keep-mem, any-true, any-false}
+use Rattle.model.proofs.AscendingLaws.{mem-ascending, ascending-mem, ascending-strict, ascending-unique, ascending-no-repeats, keep-ascending, NoRepeats}
+use Rattle.model.proofs.PlaceLaws.{keep-one-fewer, mem-getD, getD-mem, map-ext}
+use Rattle.model.proofs.WordLaws.{below-zone, carrier-word, heading-small, heading-word, word-parts}
 
 -- what is left when carriers are taken off
 
@@ -332,106 +285,3 @@ module _ (t : Track) (p : Position) (l : Laid t p) where
 
   pub retire-none : (c : ℕ) → (Out p c → ⊥) → retire c p ≡ p
   retire-none c n = without-none (eqb c) (λ d o. ne-eqb c d (λ e. n (subst (Out p) (sym e) o)))
-
--- single moves: carrier c goes from its standing u into the free zone of word w
-
-abbrev pub movedTo : Position → ℕ → ℕ → Position
-movedTo p c w = set (retire c p) (zoneOf w) (2 * c + headingOf w)
-
-module _ (t : Track) (p : Position) (l : Laid t p) (c u w : ℕ) (s : Stands p c u) (free : at p (zoneOf w) ≡ 0) (word : w < 2 * t .zones) where
-  pub length-moved : length (movedTo p c w) ≡ length p
-  length-moved = length-set (retire c p) (zoneOf w) (2 * c + headingOf w) ∙ length-without (eqb c) p
-
-  target-inside : zoneOf w < length (retire c p)
-  target-inside = subst (λ (k : ℕ). zoneOf w < k) (sym (length-without (eqb c) p ∙ l .each)) (zone-below (t .zones) w word)
-
-  pub at-moved-here : at (movedTo p c w) (zoneOf w) ≡ 2 * c + headingOf w
-  at-moved-here = getD-set-same (retire c p) (zoneOf w) (2 * c + headingOf w) 0 target-inside
-
-  pub at-moved-other : (z : ℕ) → (z ≡ zoneOf w → ⊥) → at (movedTo p c w) z ≡ at (retire c p) z
-  at-moved-other z n = getD-set-other (retire c p) (zoneOf w) z (2 * c + headingOf w) 0 n
-
-  pub moved-stands : Stands (movedTo p c w) c w
-  moved-stands = record {
-    numbered = s .numbered;
-    inside = subst (λ (k : ℕ). zoneOf w < k) (sym (length-set (retire c p) (zoneOf w) (2 * c + headingOf w))) target-inside;
-    holds = at-moved-here;
-  }
-
-  -- what stands in another zone than w's stood there when c was taken off
-  moved-elsewhere : {d v : ℕ} → Stands (movedTo p c w) d v → (zoneOf v ≡ zoneOf w → ⊥) → Stands (retire c p) d v
-  moved-elsewhere {d} {v} r n = record {
-    numbered = r .numbered;
-    inside = subst (λ (k : ℕ). zoneOf v < k) (length-moved ∙ sym (length-without (eqb c) p)) (r .inside);
-    holds = sym (at-moved-other (zoneOf v) n) ∙ r .holds;
-  }
-
-  -- any other carrier stands where it stood
-  pub moved-other : {d v : ℕ} → (c ≡ d → ⊥) → Stands p d v → Stands (movedTo p c w) d v
-  moved-other {d} {v} n r = record {
-    numbered = r .numbered;
-    inside = subst (λ (k : ℕ). zoneOf v < k) (sym length-moved) (r .inside);
-    holds = at-moved-other (zoneOf v) (λ e. stands-held r (ap (at p) e ∙ free)) ∙ retire-stands c r n .holds;
-  }
-
-  pub other-moved : {d v : ℕ} → (c ≡ d → ⊥) → Stands (movedTo p c w) d v → Stands p d v
-  other-moved {d} {v} n r = stands-retire c p (moved-elsewhere r (λ e. n (stands-same moved-stands r (sym e) .0))) .0
-
-  -- carrier c stands in the word alone
-  pub moved-here : {v : ℕ} → Stands (movedTo p c w) c v → v ≡ w
-  moved-here {v} r = go (decided (eqb (zoneOf v) (zoneOf w)))
-    where
-      go : (eqb (zoneOf v) (zoneOf w) ≡ true) ⊎ (eqb (zoneOf v) (zoneOf w) ≡ false) → v ≡ w
-      go (inl e) = stands-same r moved-stands (eqb-true (zoneOf v) (zoneOf w) e) .1
-      go (inr e) = absurd (stands-retire c p (moved-elsewhere r (eqb-false (zoneOf v) (zoneOf w) e)) .1 refl)
-
-  moved-once : Once (movedTo p c w)
-  moved-once d v x r q = go (decided (eqb c d))
-    where
-      go : (eqb c d ≡ true) ⊎ (eqb c d ≡ false) → v ≡ x
-      go (inl e) = let k : d ≡ c = sym (eqb-true c d e) in moved-here (subst (λ (y : ℕ). Stands (movedTo p c w) y v) k r) ∙ sym (moved-here (subst (λ (y : ℕ). Stands (movedTo p c w) y x) k q))
-      go (inr e) = l .once d v x (other-moved (eqb-false c d e) r) (other-moved (eqb-false c d e) q)
-
-  moved-plain : (z : ℕ) → at (movedTo p c w) z ≡ 1 → ⊥
-  moved-plain z e = go (decided (eqb z (zoneOf w)))
-    where
-      go : (eqb z (zoneOf w) ≡ true) ⊎ (eqb z (zoneOf w) ≡ false) → ⊥
-      go (inl q) = let h : 2 * c + headingOf w ≡ 1 = sym at-moved-here ∙ ap (at (movedTo p c w)) (sym (eqb-true z (zoneOf w) q)) ∙ e in s .numbered (omega arith)
-      go (inr q) = laid-retire t c p l .plain z (sym (at-moved-other z (eqb-false z (zoneOf w) q)) ∙ e)
-
-  pub moved-laid : Laid t (movedTo p c w)
-  moved-laid = record { each = length-moved ∙ l .each; once = moved-once; plain = moved-plain; inside = l .inside; home-in = l .home-in }
-
--- links
-
-module _ (t : Track) {passes : ℕ → Type 0} where
-  pub linked-trans : {p q r : ℕ} → Linked t passes p q → Linked t passes q r → Linked t passes p r
-  linked-trans here k = k
-  linked-trans (over w h f e l) k = over w h f e (linked-trans l k)
-
-  pub linked-word : (w : ℕ) → w < 2 * t .zones → passes (zoneOf w) → Linked t passes (start t w) (leave t w)
-  linked-word w h f = over w h f refl here
-
-  pub linked-sym : {p q : ℕ} → Linked t passes p q → Linked t passes q p
-  linked-sym here = here
-  linked-sym {p} (over w h f e l) = linked-trans (linked-sym l) (over (rev w) (rev-below (t .zones) w h) (subst passes (sym (zone-rev w)) f) refl end)
-    where
-      end : Linked t passes (leave t (rev w)) p
-      end = subst (λ (x : ℕ). Linked t passes x p) (sym (leave-rev t w ∙ e)) here
-
-  pub linked-same : {p q : ℕ} → p ≡ q → Linked t passes p q
-  linked-same {p} e = subst (Linked t passes p) e here
-
-  -- zones that pass one rule and the other alike
-  pub linked-mono : {allows : ℕ → Type 0} → ((z : ℕ) → z < t .zones → passes z → allows z) → {p q : ℕ} → Linked t passes p q → Linked t allows p q
-  linked-mono h here = here
-  linked-mono h (over w b f e l) = over w b (h (zoneOf w) (zone-below (t .zones) w b) f) e (linked-mono h l)
-
-  pub linked-below : ((w : ℕ) → w < 2 * t .zones → start t w < t .points) → {p q : ℕ} → p < t .points → Linked t passes p q → q < t .points
-  linked-below i b here = b
-  linked-below i b (over w h f e l) = linked-below i (i (rev w) (rev-below (t .zones) w h)) l
-
-  -- what is kept over each zone that passes is kept over links
-  pub linked-keeps : (P : ℕ → Type 0) → ((w : ℕ) → w < 2 * t .zones → passes (zoneOf w) → P (start t w) → P (leave t w)) → {p q : ℕ} → Linked t passes p q → P p → P q
-  linked-keeps P k here x = x
-  linked-keeps P k (over w h f e l) x = linked-keeps P k l (k w h f (subst P (sym e) x))

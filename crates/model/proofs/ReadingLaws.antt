@@ -15,8 +15,11 @@ use Rattle.model.specs.Position.{at, Stands, Once}
 use Rattle.model.specs.Labels.{label, parts}
 use Rattle.model.specs.Reading.{byte, pointsSaid, homeSaid, zonesSaid, endA, endB, carrierIn, headingIn, trackSaid, positionSaid, tooShort, wrongLength, wrongVersion, outOfRange, wrongCount, badZone, repeated, thin, apart, refusal}
 use Rattle.model.specs.Accepted.{Laid, Accepted, HangsTogether}
-use Rattle.model.proofs.ListLaws.{both-ways, decided, and-left, and-right, length-below, getD-map-below, any-below-false, below-any, all-below, all-below-false}
-use Rattle.model.proofs.PositionLaws.{zone-below, rev-below, linked-mono}
+use Rattle.model.proofs.BoolLaws.{both-ways, decided, and-left, and-right}
+use Rattle.model.proofs.ListLaws.{length-below, any-below-false, below-any, all-below, all-below-false}
+use Rattle.model.proofs.PlaceLaws.{getD-map-below}
+use Rattle.model.proofs.WordLaws.{zone-below, rev-below}
+use Rattle.model.proofs.LinkLaws.{linked-mono}
 use Rattle.model.proofs.LabelLaws.{parts-linked, linked-parts}
 
 -- none of the rows 1 to 8 holds

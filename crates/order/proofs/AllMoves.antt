@@ -11,7 +11,8 @@ use borrow.Author.Tests.{eqb-true, eqb-false, ltb-true, ltb-false}
 use Rattle.model.specs.Track.{Track, zoneOf, start, leave}
 use Rattle.model.specs.Position.{Position, at, Stands, Out}
 use Rattle.model.specs.Accepted.{Laid}
-use Rattle.model.proofs.PositionLaws.{out-decided, laid-retire, moved-laid}
+use Rattle.model.proofs.PositionLaws.{out-decided, laid-retire}
+use Rattle.model.proofs.MoveLaws.{moved-laid}
 use Rattle.rules.specs.Tries.{Move, into, home, Allowed, enters, arrives, Moved, Moves}
 
 module _ {t : Track} where

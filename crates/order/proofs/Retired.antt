@@ -11,7 +11,7 @@ use lib.Dec.{eqb}
 use borrow.Author.Tests.{eqb-true, eqb-false}
 use Rattle.model.specs.Track.{Track}
 use Rattle.model.specs.Position.{Position, Stands, Out, Once, retire, outs}
-use Rattle.model.proofs.ListLaws.{NoRepeats}
+use Rattle.model.proofs.AscendingLaws.{NoRepeats}
 use Rattle.model.proofs.PositionLaws.{stands-retire, retire-stands, once-retire, outs-retire-length}
 use Rattle.rules.specs.Routes.{Entry, Retires, done, next}
 use Rattle.rules.specs.Tries.{NoneCanGo}

@@ -10,7 +10,7 @@ use lib.ListN.{length, length-append}
 use Rattle.model.specs.Track.{Track}
 use Rattle.model.specs.Position.{Position, Out, outs}
 use Rattle.model.specs.Accepted.{Laid}
-use Rattle.model.proofs.ListLaws.{NoRepeats}
+use Rattle.model.proofs.AscendingLaws.{NoRepeats}
 use Rattle.model.proofs.PositionLaws.{stands-below, laid-retire}
 use Rattle.rules.specs.Routes.{Onward, Route, route, Entry}
 use Rattle.rules.specs.Key.{run, named, planWords}

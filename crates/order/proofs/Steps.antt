@@ -5,7 +5,8 @@ use mathlib.Core.List.{List·Memᴰ}
 use Rattle.model.specs.Lists.{below, Ascending}
 use Rattle.model.specs.Track.{Track}
 use Rattle.model.specs.Position.{Position}
-use Rattle.model.proofs.ListLaws.{mem-keep, keep-mem, mem-below, below-mem, keep-ascending, below-ascending}
+use Rattle.model.proofs.ListLaws.{mem-keep, keep-mem, mem-below, below-mem}
+use Rattle.model.proofs.AscendingLaws.{keep-ascending, below-ascending}
 use Rattle.rules.specs.Routes.{Step}
 use Rattle.rules.specs.Key.{steps, nexts}
 use Rattle.rules.proofs.StepTested.{step-of-test, test-of-step}

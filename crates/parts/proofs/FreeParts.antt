@@ -13,8 +13,9 @@ use Rattle.model.specs.Track.{Track, Linked, start}
 use Rattle.model.specs.Track.Linked.{here, over}
 use Rattle.model.specs.Position.{Position, isFree}
 use Rattle.model.specs.Labels.{label}
-use Rattle.model.proofs.ListLaws.{not-true-false, count-below-ext}
-use Rattle.model.proofs.PositionLaws.{linked-trans, linked-word, linked-below}
+use Rattle.model.proofs.BoolLaws.{not-true-false}
+use Rattle.model.proofs.CountLaws.{count-below-ext}
+use Rattle.model.proofs.LinkLaws.{linked-trans, linked-word, linked-below}
 use Rattle.model.proofs.LabelLaws.{parts-linked, linked-parts}
 use Rattle.rules.specs.Collapse.{freeParts, loopIn}
 use Rattle.points.specs.Sets.{hasBit, Reach, Grown}

@@ -11,8 +11,9 @@ use lib.Dec.{eqb}
 use Rattle.model.specs.Track.{Track, zoneOf, headingOf, rev, start, leave}
 use Rattle.model.specs.Position.{Position, at, carrierOf, isFree, Stands}
 use Rattle.model.specs.Labels.{label}
-use Rattle.model.proofs.ListLaws.{decided, and-left}
-use Rattle.model.proofs.PositionLaws.{zone-rev, rev-below, zone-below, heading-rev, heading-small, word-parts, leave-rev, stands-heading, stands-held, laid-stands, stands-below}
+use Rattle.model.proofs.BoolLaws.{decided, and-left}
+use Rattle.model.proofs.WordLaws.{zone-rev, rev-below, zone-below, heading-rev, heading-small, word-parts, leave-rev}
+use Rattle.model.proofs.PositionLaws.{stands-heading, stands-held, laid-stands, stands-below}
 use Rattle.rules.specs.Collapse.{standing, freeParts, loopIn, turns}
 use Rattle.points.specs.Sets.{hasBit, Reach, Grown}
 use Rattle.points.specs.Sets.Reach.{here, on}

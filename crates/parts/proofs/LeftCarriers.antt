@@ -13,7 +13,7 @@ use Rattle.model.specs.Lists.{below, consIf, keep, ascending}
 use Rattle.model.specs.Track.{Track, zoneOf}
 use Rattle.model.specs.Position.{Position, at, carrierOf, isFree, Stands, outs}
 use Rattle.model.specs.Accepted.{Laid}
-use Rattle.model.proofs.ListLaws.{decided}
+use Rattle.model.proofs.BoolLaws.{decided}
 use Rattle.model.proofs.PositionLaws.{stands-held, laid-numbered}
 use Rattle.rules.specs.Collapse.{left}
 use Rattle.blocking.proofs.AnySet.{left-by-test}

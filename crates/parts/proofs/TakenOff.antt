@@ -12,7 +12,8 @@ use lib.Seq.{getD-set-same, getD-set-other, ext-getD}
 use Rattle.model.specs.Lists.{below}
 use Rattle.model.specs.Track.{headingOf, rev}
 use Rattle.model.specs.Position.{Position, at}
-use Rattle.model.proofs.ListLaws.{length-below, getD-map-below}
+use Rattle.model.proofs.ListLaws.{length-below}
+use Rattle.model.proofs.PlaceLaws.{getD-map-below}
 use Rattle.points.specs.Sets.{hasBit}
 use Rattle.parts.specs.Home.{leavesAt, leftPosition}
 

@@ -10,7 +10,7 @@ use native.Mathlib.Omega.{arith}
 use lib.ListN.{length, getD, replicate, length-replicate, length-set}
 use Rattle.model.specs.Track.{Track, rev}
 use Rattle.model.specs.Position.{Position}
-use Rattle.model.proofs.PositionLaws.{rev-below}
+use Rattle.model.proofs.WordLaws.{rev-below}
 use Rattle.points.specs.Sets.{hasBit, Ways}
 use Rattle.points.proofs.BitLaws.{bit-none}
 use Rattle.points.proofs.WayLaws.{added, added-way, added-old, added-new}

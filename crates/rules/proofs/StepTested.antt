@@ -6,7 +6,7 @@ use mathlib.Core.Bool.{Bool, true, false, not, _&&_, _||_}
 use mathlib.Core.Logic.{_⊎_, inl, inr, ⊎-elim}
 use lib.Dec.{eqb}
 use borrow.Author.Tests.{eqb-true, eqb-false, eq-eqb, ne-eqb, not-true}
-use Rattle.model.proofs.ListLaws.{and-left, and-right, or-left, or-right}
+use Rattle.model.proofs.BoolLaws.{and-left, and-right, or-left, or-right}
 use Rattle.model.specs.Track.{Track, zoneOf, start, leave}
 use Rattle.model.specs.Position.{Position, at, carrierOf}
 use Rattle.rules.specs.Routes.{Step}

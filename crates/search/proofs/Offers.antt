@@ -13,7 +13,8 @@ use borrow.Author.Tests.{eqb-true, eqb-false, eq-eqb}
 use Rattle.model.specs.Lists.{below, consIf, keep, any, count}
 use Rattle.model.specs.Track.{rev}
 use Rattle.model.specs.Position.{Position}
-use Rattle.model.proofs.ListLaws.{keep-keep, count-one-more, count-below}
+use Rattle.model.proofs.ListLaws.{keep-keep}
+use Rattle.model.proofs.CountLaws.{count-one-more, count-below}
 use Rattle.rules.specs.Key.{nexts}
 use Rattle.least.specs.Queue.{Queue, inQueue, offerIf, offer, offerAll}
 use Rattle.search.specs.Words.{Chain, stop, link}

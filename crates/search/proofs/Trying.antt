@@ -15,7 +15,8 @@ use borrow.Author.Tests.{eq-eqb, ne-eqb}
 use Rattle.model.specs.Lists.{below, consIf, keep, any, count}
 use Rattle.model.specs.Track.{Track, headingOf, rev, leave}
 use Rattle.model.specs.Position.{Position, at, carrierOf, isFree, Once, Stands, outs}
-use Rattle.model.proofs.ListLaws.{count-none, count-below, mem-below}
+use Rattle.model.proofs.ListLaws.{count-none, mem-below}
+use Rattle.model.proofs.CountLaws.{count-below}
 use Rattle.model.proofs.PositionLaws.{held-stands}
 use Rattle.rules.specs.Routes.{Entry}
 use Rattle.rules.specs.Search.{leastFrom}

@@ -1,5 +1,4 @@
 pub mod Members
-pub mod Words
 pub mod WalkLaws
 pub mod OneMore
 pub mod Part

@@ -8,7 +8,9 @@ use native.Mathlib.Numerals.{add-one}
 use lib.Dec.{eqb}
 use borrow.Author.Tests.{eqb-true, eq-eqb, ne-eqb}
 use Rattle.model.specs.Lists.{any, below, count}
-use Rattle.model.proofs.ListLaws.{or-right, count-none, count-one-more}
+use Rattle.model.proofs.BoolLaws.{or-right}
+use Rattle.model.proofs.ListLaws.{count-none}
+use Rattle.model.proofs.CountLaws.{count-one-more}
 
 abbrev pub elem : ℕ → List ℕ → Bool
 elem a l = any (eqb a) l

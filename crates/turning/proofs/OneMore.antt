@@ -9,7 +9,7 @@ use native.Mathlib.Omega.{arith}
 use Rattle.model.specs.Track.{Track, zoneOf, rev, start, leave}
 use Rattle.turning.specs.Walks.{Apart, Walk, stay, go}
 use Rattle.turning.proofs.Members.{elem, elem-either, elem-here, elem-there}
-use Rattle.turning.proofs.Words.{same-zone, zone-rev, rev-below, leave-rev}
+use Rattle.model.proofs.WordLaws.{same-zone, zone-rev, rev-below, leave-rev}
 use Rattle.turning.proofs.WalkLaws.{widen, across}
 
 -- the test of a list's zones
@@ -57,7 +57,7 @@ module _ (t : Track) (zs : List ℕ) where
       b = rw leave-rev (a .1)
 
       r : Walk t (among (zoneOf (rev w) ∷ zs)) (leave t w) (rev w ∷ a .0) p
-      r = walk-over (rev w) (rev-below w (t .zones) h) (rw zone-rev new) stay b
+      r = walk-over (rev w) (rev-below (t .zones) w h) (rw zone-rev new) stay b
 
   -- w leads to a point where no zone of the list ends: walks between other points don't use it
   module _ (w : ℕ) (dead-end : (u : ℕ) → elem (zoneOf u) zs ≡ true → start t u ≡ leave t w → ⊥) where

@@ -8,10 +8,10 @@ use mathlib.Core.Logic.{_⊎_, inl, inr}
 use native.Mathlib.Omega.{arith}
 use lib.ListN.{length}
 use Rattle.model.specs.Track.{Track, zoneOf, rev, start, leave}
-use Rattle.model.proofs.ListLaws.{both-ways, not-true-false}
+use Rattle.model.proofs.BoolLaws.{both-ways, not-true-false}
 use Rattle.turning.specs.Walks.{Walk, stay}
 use Rattle.turning.proofs.Members.{elem, elem-either, elem-here, elem-there}
-use Rattle.turning.proofs.Words.{same-zone, zone-rev}
+use Rattle.model.proofs.WordLaws.{same-zone, zone-rev}
 use Rattle.turning.proofs.OneMore.{among, Way, Turn, empty-over-none, widen-one, widen-both, way-over, way-back, turn-over, walks-avoid}
 
 -- the zones and the points so far

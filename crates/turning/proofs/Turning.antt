@@ -8,10 +8,12 @@ use mathlib.Core.Logic.{_↔_}
 use native.Mathlib.Omega.{arith}
 use lib.ListN.{length}
 use Rattle.model.specs.Track.{Track, Linked, start}
-use Rattle.model.proofs.ListLaws.{and-left, and-right, count-below-ext}
+use Rattle.model.proofs.WordLaws.{zone-first, first-below}
+use Rattle.model.proofs.BoolLaws.{and-left, and-right}
+use Rattle.model.proofs.CountLaws.{count-below-ext}
 use Rattle.turning.specs.Walks.{Walk, pointsWithin, zonesWithin}
 use Rattle.turning.proofs.Members.{elem, same-test}
-use Rattle.turning.proofs.Words.{zone-first, first-below}
+
 use Rattle.turning.proofs.WalkLaws.{widen}
 use Rattle.turning.proofs.OneMore.{among}
 use Rattle.turning.proofs.Part.{first-inside, zones-pass, ends-inside, enough, turn, no-turn}
@@ -33,13 +35,13 @@ module _ (t : Track) (inside : (w : ℕ) → w < 2 * t .zones → start t w < t 
   same-zones z h = same-test (passes z && within (start t (2 * z))) (elem z (grown .zones)) in-part of-part
     where
       starts : within (start t (2 * z)) ≡ elem (start t (2 * z)) (grown .points)
-      starts = same-points (start t (2 * z)) (inside (2 * z) (first-below z (t .zones) h))
+      starts = same-points (start t (2 * z)) (inside (2 * z) (first-below (t .zones) z h))
 
       in-part : (passes z && within (start t (2 * z))) ≡ true → elem z (grown .zones) ≡ true
       in-part e =
           let p = and-left (passes z) (within (start t (2 * z))) e in
           let s = and-right (passes z) (within (start t (2 * z))) e in
-          let i = grown .complete (2 * z) (first-below z (t .zones) h) (rw zone-first p) (sym starts ∙ s) in
+          let i = grown .complete (2 * z) (first-below (t .zones) z h) (rw zone-first p) (sym starts ∙ s) in
           rw zone-first at i
 
       of-part : elem z (grown .zones) ≡ true → (passes z && within (start t (2 * z))) ≡ true

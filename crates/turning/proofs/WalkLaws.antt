@@ -9,7 +9,7 @@ use lib.Dec.{eqb}
 use borrow.Author.Tests.{eqb-true, eqb-false}
 use Rattle.model.specs.Track.{Track, Linked, here, over, zoneOf, rev, start, leave}
 use Rattle.turning.specs.Walks.{Apart, Walk, stay, go}
-use Rattle.turning.proofs.Words.{same-zone, leave-rev}
+use Rattle.model.proofs.WordLaws.{same-zone, leave-rev}
 
 module _ (t : Track) (f g : ℕ → Bool) (wider : (z : ℕ) → f z ≡ true → g z ≡ true) where
   -- where more zones pass a walk stays one

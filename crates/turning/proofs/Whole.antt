@@ -10,10 +10,12 @@ use lib.ListN.{length}
 use borrow.Author.Tests.{not-true, not-false}
 use Rattle.model.specs.Lists.{any, below, count}
 use Rattle.model.specs.Track.{Track, Linked, here, over, zoneOf, rev, start, leave}
-use Rattle.model.proofs.ListLaws.{and-left, and-right, any-below, any-below-false, count-below}
+use Rattle.model.proofs.BoolLaws.{and-left, and-right}
+use Rattle.model.proofs.ListLaws.{any-below, any-below-false}
+use Rattle.model.proofs.CountLaws.{count-below}
 use Rattle.turning.specs.Walks.{Walk, stay, go}
 use Rattle.turning.proofs.Members.{elem, count-no-members, count-members}
-use Rattle.turning.proofs.Words.{zone-rev, zone-below, rev-below}
+use Rattle.model.proofs.WordLaws.{zone-rev, zone-below, rev-below}
 use Rattle.turning.proofs.WalkLaws.{widen, linked-of-walk}
 use Rattle.turning.proofs.OneMore.{among}
 use Rattle.turning.proofs.Part.{Part, alone, new-point, both-inside, ends-inside, zone-new, ways, zones-pass}
@@ -22,13 +24,13 @@ module _ {t : Track} {passes : ℕ → Bool} {v : ℕ} where
   -- no zone comes in twice
   pub zones-counted : {zs ps : List ℕ} → Part t passes v zs ps → count (among zs) (below (t .zones)) ≡ length zs
   zones-counted alone = count-no-members (t .zones)
-  zones-counted (new-point {zs} w h e s n k) = count-members (zoneOf w) zs (t .zones) (zone-below w (t .zones) h) (zone-new k w n) ∙ ap suc (zones-counted k)
-  zones-counted (both-inside {zs} w h e s l n k) = count-members (zoneOf w) zs (t .zones) (zone-below w (t .zones) h) n ∙ ap suc (zones-counted k)
+  zones-counted (new-point {zs} w h e s n k) = count-members (zoneOf w) zs (t .zones) (zone-below (t .zones) w h) (zone-new k w n) ∙ ap suc (zones-counted k)
+  zones-counted (both-inside {zs} w h e s l n k) = count-members (zoneOf w) zs (t .zones) (zone-below (t .zones) w h) n ∙ ap suc (zones-counted k)
 
   -- no point comes in twice
   pub points-counted : {zs ps : List ℕ} → v < t .points → ((w : ℕ) → w < 2 * t .zones → start t w < t .points) → Part t passes v zs ps → count (among ps) (below (t .points)) ≡ length ps
   points-counted b inside alone = count-members v [] (t .points) b refl ∙ ap suc (count-no-members (t .points))
-  points-counted b inside (new-point {ps} w h e s n k) = count-members (leave t w) ps (t .points) (inside (rev w) (rev-below w (t .zones) h)) n ∙ ap suc (points-counted b inside k)
+  points-counted b inside (new-point {ps} w h e s n k) = count-members (leave t w) ps (t .points) (inside (rev w) (rev-below (t .zones) w h)) n ∙ ap suc (points-counted b inside k)
   points-counted b inside (both-inside w h e s l n k) = points-counted b inside k
 
 -- a part with every passing zone that touches it

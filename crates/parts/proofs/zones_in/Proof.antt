@@ -13,7 +13,7 @@ use denote.Ref.{now}
 use lib.ListN.{getD}
 use Rattle.model.specs.Lists.{below, count}
 use Rattle.model.specs.Position.{at, isFree}
-use Rattle.model.proofs.ListLaws.{count-below, count-below-pass, count-below-skip}
+use Rattle.model.proofs.CountLaws.{count-below, count-below-pass, count-below-skip}
 use Rattle.points.specs.Sets.{hasBit}
 use Rattle.parts.proofs.zones_in.Statement.{statement}
 use Rattle.parts.proofs.zones_in.Tie as tie

@@ -1,6 +1,6 @@
-pub mod Chains
-pub mod Offers
-pub mod Routing
+pub mod Looks
 pub mod Trying
 pub mod Retiring
+pub mod Runs
 pub mod Sends
+pub mod Prepares

@@ -1,20 +1,20 @@
 -- A carrier that leaves: its zone is freed, and the zones in order that are still held are those of the carriers still out.
 -- A zone is looked at before and after; no carrier stands in two.
-use Prim.Native.Nat.{ℕ, suc, _+_, _*_, _/_, _%_, _≤_, _<_}
+use Prim.Native.Nat.{ℕ, _+_, _*_, _<_}
 use mathlib.Core.Path.{_≡_, refl, sym, _∙_, ap, ap₂, subst}
-use mathlib.Core.List.{List, [], _∷_, map, List·Memᴰ, Memᴰ·map, Memᴰ·cast}
+use mathlib.Core.List.{List, [], _∷_, List·Memᴰ, Memᴰ·map}
 use mathlib.Core.Bool.{Bool, true, false, not}
 use mathlib.Core.Option.{Option, none, some}
 use native.Mathlib.Omega.{arith}
-use lib.ListN.{length, getD, set, take, length-set}
+use lib.ListN.{length, set, take, length-set}
 use lib.Seq.{getD-set-same, getD-set-other, ext-getD}
 use lib.Dec.{eqb}
 use borrow.Author.Tests.{eqb-true, eqb-false, eq-eqb, ne-eqb}
 use Rattle.model.specs.Lists.{consIf, keep}
 use Rattle.model.specs.Track.{Track, headingOf}
-use Rattle.model.specs.Position.{Position, at, carrierOf, isFree, Stands, Once, retire, outs}
+use Rattle.model.specs.Position.{Position, at, carrierOf, isFree, Stands, Once, retire}
 use Rattle.model.proofs.ListLaws.{keep-all}
-use Rattle.model.proofs.PositionLaws.{length-without, at-without-gone, at-without-kept, free-without, held-stands, stands-held, mem-outs, outs-retire}
+use Rattle.model.proofs.PositionLaws.{length-without, at-without-gone, at-without-kept, free-without, held-stands, mem-outs, outs-retire}
 use Rattle.rules.specs.Routes.{Entry}
 use Rattle.rules.specs.Key.{nexts, zoneFor, routeFrom, leastRoute, goesElse, firstToGo}
 use Rattle.carriers.specs.Order.{carriersIn, Sorted}

@@ -9,8 +9,8 @@ use Rattle.model.specs.Position.{Position, at, carrierOf, Once, outs}
 use Rattle.rules.specs.Routes.{Entry}
 use Rattle.rules.specs.Key.{firstToGo}
 use Rattle.search.specs.Order.{InOrder}
-use Rattle.search.specs.Searching.{Tables}
-use Rattle.search.specs.Written.{routeTo, Readable}
+use Rattle.queue.specs.Searching.{Tables}
+use Rattle.queue.specs.Written.{routeTo, Readable}
 use Rattle.search.specs.declared.Goes.{Goes}
 use Rattle.search.specs.declared.Goes.the-variants.{From, Nobody}
 

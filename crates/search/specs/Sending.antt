@@ -7,6 +7,7 @@ use Rattle.model.specs.Track.{Track}
 use Rattle.model.specs.Position.{Position, at, outs}
 use Rattle.model.specs.Accepted.{Laid}
 use Rattle.rules.specs.Key.{run, planWords}
+use Rattle.search.specs.Leaving.{Seeking}
 
 abbrev pub trackOf : ℕ → ℕ → ℕ → List ℕ → Track
 trackOf points home zones ends = record { points = points; home = home; zones = zones; ends = ends }
@@ -20,10 +21,18 @@ pub record Ready (points home zones : ℕ) (ends p plan : List ℕ) : Type 0 whe
   pub numbers : (z : ℕ) → at p z < 131072
   pub room : length (outs p) * (2 + 2 * zones) ≤ length plan
 
+-- the same with the tables made and the zones in order: what the rounds ask
+pub record Prepared (zones : ℕ) (ends p first after order : List ℕ) (count : ℕ) (words froms plan : List ℕ) : Type 0 where
+  pub seeking : Seeking zones ends p first after order count words froms
+  pub counted : count ≡ length (outs p)
+  pub numbers : (z : ℕ) → at p z < 131072
+  pub room : length (outs p) * (2 + 2 * zones) ≤ length plan
+
 -- the words of the key's plan
 abbrev pub planOf : Track → Position → List ℕ
 planOf t p = planWords (run t p .plan)
 
+-- the plan's words are stored, the rest of the plan is as it was, and all that can go are gone
 pub record SentHome (points home zones : ℕ) (ends p plan p′ plan′ : List ℕ) (r : ℕ) : Type 0 where
   pub count : r ≡ length (planOf (trackOf points home zones ends) p)
   pub written : plan′ ≡ planOf (trackOf points home zones ends) p ++ drop (length (planOf (trackOf points home zones ends) p)) plan

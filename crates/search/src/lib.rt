@@ -1,10 +1,6 @@
 // The key's search: while any carrier can go home, the lowest-numbered that can leaves next, by its least route.
-mod queue;
-mod route;
-mod tables;
-
 ghost use Rattle.search.specs.Leaving.{Seeking, Sought};
-ghost use Rattle.search.specs.Sending.{Ready, SentHome};
+ghost use Rattle.search.specs.Sending.{Ready, Prepared, SentHome};
 
 // The zone of the carrier that can go, and the place in the queue of the last word of its route; or none can.
 pub enum Goes {
@@ -50,10 +46,10 @@ fn first_to_go(
         let mut i = 0;
         while i < found {
             let w = words[i];
-            if tables::leaving(ends, w) == home {
+            if queue::tables::leaving(ends, w) == home {
                 break 'carriers Goes::From(zone, i);
             }
-            found = queue::offer_next(
+            found = queue::offers::offer_next(
                 zones,
                 ends,
                 position,
@@ -72,6 +68,48 @@ fn first_to_go(
     }
 }
 
+// One round after another: the carrier that leaves next is taken off and its entry stored, while any can go. Gives the count of words stored.
+fn send_all(
+    home: usize,
+    zones: usize,
+    ends: &[usize],
+    first: &[usize],
+    after: &[usize],
+    order: &[usize],
+    count: usize,
+    words: &mut [usize],
+    froms: &mut [usize],
+    position: &mut [u32],
+    plan: &mut [u16],
+) -> usize
+    requires { ⌜ Prepared zones (now ends) (now position) (now first) (now after) (now order) count (now words) (now froms) (now plan) ⌝ }
+    ensures { λ r. ⌜ SentHome 0 home zones (now (ends .entry)) (now (position .entry)) (now (plan .entry)) (now (position .exit)) (now (plan .exit)) r ⌝ }
+{
+    let mut left = count;
+    let mut at = 0;
+    while 0 < left {
+        let goes = first_to_go(
+            home,
+            zones,
+            ends,
+            position,
+            first,
+            after,
+            order,
+            count,
+            words,
+            froms,
+        );
+        let Goes::From(zone, place) = goes else {
+            return at;
+        };
+        at = queue::route::write_entry(position[zone] / 2, place, words, froms, plan, at);
+        position[zone] = 0;
+        left -= 1;
+    }
+    at
+}
+
 // Sends home all that can go: the plan's words are stored, and each carrier that goes is taken off. Gives the count of words stored.
 pub fn send_home(
     points: usize,
@@ -87,32 +125,22 @@ pub fn send_home(
     let beyond = 2 * zones;
     let mut first = [beyond; 64];
     let mut after = [0usize; 192];
-    tables::link_words(zones, ends, &mut first, &mut after);
+    queue::tables::link_words(zones, ends, &mut first, &mut after);
     let mut order = [0usize; 96];
     let count = carriers::order_carriers(position, &mut order);
     let mut words = [0usize; 192];
     let mut froms = [0usize; 192];
-    let mut left = count;
-    let mut at = 0;
-    while 0 < left {
-        let goes = first_to_go(
-            home,
-            zones,
-            ends,
-            position,
-            &first,
-            &after,
-            &order,
-            count,
-            &mut words,
-            &mut froms,
-        );
-        let Goes::From(zone, place) = goes else {
-            return at;
-        };
-        at = route::write_entry(position[zone] / 2, place, &words, &froms, plan, at);
-        position[zone] = 0;
-        left -= 1;
-    }
-    at
+    send_all(
+        home,
+        zones,
+        ends,
+        &first,
+        &after,
+        &order,
+        count,
+        &mut words,
+        &mut froms,
+        position,
+        plan,
+    )
 }

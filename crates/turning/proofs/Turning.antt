@@ -13,7 +13,6 @@ use Rattle.model.proofs.BoolLaws.{and-left, and-right}
 use Rattle.model.proofs.CountLaws.{count-below-ext}
 use Rattle.turning.specs.Walks.{Walk, pointsWithin, zonesWithin}
 use Rattle.turning.proofs.Members.{elem, same-test}
-
 use Rattle.turning.proofs.WalkLaws.{widen}
 use Rattle.turning.proofs.OneMore.{among}
 use Rattle.turning.proofs.Part.{first-inside, zones-pass, ends-inside, enough, turn, no-turn}

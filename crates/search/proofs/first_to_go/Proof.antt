@@ -3,7 +3,8 @@ use Prim.Native.Nat.{_*_, _-_}
 use mathlib.Core.Path.{sym, _∙_}
 use native.Mathlib.Omega.{arith}
 use denote.Ref.{now}
-use Rattle.search.proofs.Trying.{Looking, looking-few, looking-more, Tried, tried-none, nobody-goes, Next, next-few, next-in-order, next-inside, next-free, Turn, turn-standing, turn-in-words, turn-in-froms, turn-looks, turn-words, turn-froms, turn-past, turn-inside, turn-goes, turn-offers, turn-leaves}
+use Rattle.search.proofs.Looks.{Looking, looking-few, looking-more}
+use Rattle.search.proofs.Trying.{Tried, tried-none, nobody-goes, Next, next-few, next-in-order, next-inside, next-free, Turn, turn-standing, turn-in-words, turn-in-froms, turn-looks, turn-words, turn-froms, turn-past, turn-inside, turn-goes, turn-offers, turn-leaves}
 use Rattle.search.proofs.first_to_go.Statement.{statement}
 use Rattle.search.proofs.first_to_go.Tie as tie
 

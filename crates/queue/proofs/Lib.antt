@@ -1,0 +1,4 @@
+pub mod Chains
+pub mod OfferLaws
+pub mod Routing
+pub mod QueueArrays

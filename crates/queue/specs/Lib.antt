@@ -1,0 +1,3 @@
+pub mod Words
+pub mod Searching
+pub mod Written

@@ -1,0 +1,101 @@
+-- Laws of one carrier's search: the queue from its standing on, a place at a time.
+-- What is left of the search decides how it ends, and how it ends is the least way.
+use Prim.Native.Nat.{ℕ, suc, _+_, _-_, _*_, _≤_, _<_}
+use mathlib.Core.Path.{_≡_, refl, sym, _∙_, ap, ap₂}
+use mathlib.Core.List.{List}
+use mathlib.Core.Option.{none, some}
+use native.Mathlib.Omega.{arith}
+use native.Mathlib.Nat.{sub-zero}
+use native.Mathlib.Numerals.{add-one}
+use lib.ListN.{length, getD, set, replicate, length-set, length-replicate, getD-replicate}
+use lib.Seq.{take-suc-set}
+use lib.Dec.{eqb}
+use borrow.Author.Tests.{eq-eqb, ne-eqb}
+use Rattle.model.specs.Track.{Track, rev}
+use Rattle.rules.specs.Search.{leastFrom}
+use Rattle.rules.specs.Key.{nexts, leavesHome}
+use Rattle.least.specs.Queue.{Queue, Found, offerAll, searchOn, searchFrom, wayOf}
+use Rattle.least.proofs.SearchLaws.{search-past, search-goal, search-on, search-from}
+use Rattle.least.proofs.BreadthFirst.{search-least}
+use Rattle.order.proofs.Steps.{nexts-ascending, nexts-below}
+use Rattle.queue.specs.Searching.{queueIn, Queued, Offered}
+use Rattle.queue.specs.Written.{routeTo}
+use Rattle.queue.proofs.OfferLaws.{queued-more}
+use Rattle.queue.proofs.QueueArrays.{queued-most, queue-size, queue-word, route-in, queued-none}
+use Rattle.search.specs.Leaving.{homeward}
+
+-- the search of one carrier, at place i
+pub record Looking (home zones : ℕ) (ends p : List ℕ) (c standing : ℕ) (words₀ froms₀ words froms seen : List ℕ) (n i : ℕ) : Type 0 where
+  pub queued : Queued (2 * zones) words froms seen n
+  pub low : i ≤ n
+  pub same-words : length words ≡ length words₀
+  pub same-froms : length froms ≡ length froms₀
+  pub full : length seen ≡ 192
+  pub search :
+      searchOn (nexts (homeward home zones ends) p c) (leavesHome (homeward home zones ends)) (2 * zones - i) (queueIn words froms n) i ≡
+      searchFrom (nexts (homeward home zones ends) p c) (leavesHome (homeward home zones ends)) (2 * zones) standing
+
+pub looking-starts : (home zones : ℕ) (ends p : List ℕ) (c standing : ℕ) (words froms : List ℕ) → zones ≤ 96 → 2 * zones ≤ length words → 2 * zones ≤ length froms → standing < 2 * zones
+    → Looking home zones ends p c standing (set words 0 standing) (set froms 0 0) (set words 0 standing) (set froms 0 0) (set (replicate 192 0) standing 1) 1 0
+looking-starts home zones ends p c standing words froms s a b h = record {
+  queued =
+      queued-more (queued-none (2 * zones) words froms (omega arith) a b) standing 0 h
+      (ap (λ (x : ℕ). eqb x 1) (getD-replicate 192 standing 0 0 (omega arith))) (λ l. absurd (omega arith));
+  low = omega arith;
+  same-words = refl;
+  same-froms = refl;
+  full = length-set (replicate 192 0) standing 1 ∙ length-replicate {A = ℕ} 192 0;
+  search =
+      ap₂ (λ (k : ℕ) (q : Queue). searchOn (nexts (homeward home zones ends) p c) (leavesHome (homeward home zones ends)) k q 0) (sub-zero (2 * zones))
+      (ap₂ (λ (v u : List ℕ). record { words = v; froms = u }) (take-suc-set words 0 standing (omega arith)) (take-suc-set froms 0 0 (omega arith))) ∙
+      sym (search-from (nexts (homeward home zones ends) p c) (leavesHome (homeward home zones ends)) (2 * zones) standing);
+}
+
+module _ {home zones : ℕ} {ends p : List ℕ} {c standing : ℕ} {words₀ froms₀ words froms seen : List ℕ} {n i : ℕ}
+    (l : Looking home zones ends p c standing words₀ froms₀ words froms seen n i) where
+  abbrev t : Track
+  t = homeward home zones ends
+
+  abbrev q : Queue
+  q = queueIn words froms n
+
+  -- how the search ends is the least way
+  ends-at : standing < 2 * zones → {f : Found} → searchFrom (nexts t p c) (leavesHome t) (2 * zones) standing ≡ f → leastFrom (nexts t p c) (leavesHome t) (2 * zones) standing ≡ wayOf f
+  ends-at h e = sym (search-least (nexts t p c) (leavesHome t) (2 * zones) standing (nexts-ascending t p c) (nexts-below t p c) h) ∙ ap wayOf e
+
+  pub looking-past : standing < 2 * zones → n ≤ i → leastFrom (nexts t p c) (leavesHome t) (2 * zones) standing ≡ none
+  looking-past h e = ends-at h (sym (l .search) ∙ search-past (nexts t p c) (leavesHome t) (2 * zones - i) q i (rw (queue-size (l .queued)) e))
+
+  module _ (h : i < n) where
+    one-more : 2 * zones - i ≡ suc (2 * zones - suc i)
+    one-more = omega (arith, queued-most (l .queued))
+
+    pub looking-few : i < 2 * zones
+    looking-few = omega (arith, queued-most (l .queued))
+
+    pub looking-word : getD words i 0 < 2 * zones
+    looking-word = l .queued .inside i h
+
+    search-here : searchOn (nexts t p c) (leavesHome t) (suc (2 * zones - suc i)) q i ≡ searchFrom (nexts t p c) (leavesHome t) (2 * zones) standing
+    search-here = ap (λ (k : ℕ). searchOn (nexts t p c) (leavesHome t) k q i) (sym one-more) ∙ l .search
+
+    pub looking-goal : standing < 2 * zones → getD ends (rev (getD words i 0)) 0 ≡ home → leastFrom (nexts t p c) (leavesHome t) (2 * zones) standing ≡ some (routeTo words froms i)
+    looking-goal s e =
+        ends-at s (sym search-here ∙ search-goal (nexts t p c) (leavesHome t) (2 * zones - suc i) q i (rw (queue-size (l .queued)) h) (ap (leavesHome t) (queue-word (l .queued) i h) ∙ eq-eqb _ _ e)) ∙
+        ap some (route-in (l .queued) i h)
+
+    module _ (e : getD ends (rev (getD words i 0)) 0 ≡ home → ⊥) {words′ froms′ seen′ : List ℕ} {r : ℕ} (o : Offered zones ends p c (getD words i 0) i words froms n words′ froms′ seen′ r)
+        (as-words : length words′ ≡ length words) (as-froms : length froms′ ≡ length froms) (as-seen : length seen′ ≡ length seen) where
+      pub looking-more : Looking home zones ends p c standing words₀ froms₀ words′ froms′ seen′ r (i + 1)
+      unfolding nexts
+      looking-more = rw add-one record {
+        queued = o .queued;
+        low = o .later;
+        same-words = as-words ∙ l .same-words;
+        same-froms = as-froms ∙ l .same-froms;
+        full = as-seen ∙ l .full;
+        search =
+            ap (λ (x : Queue). searchOn (nexts t p c) (leavesHome t) (2 * zones - suc i) x (suc i)) (o .queue ∙ ap (λ (w : ℕ). offerAll i q (nexts t p c w)) (sym (queue-word (l .queued) i h))) ∙
+            sym (search-on (nexts t p c) (leavesHome t) (2 * zones - suc i) q i (rw (queue-size (l .queued)) h) (ap (leavesHome t) (queue-word (l .queued) i h) ∙ ne-eqb _ _ e)) ∙
+            search-here;
+      }

@@ -1,17 +1,17 @@
 -- Any home's set will do: two of them have the same points, and by the test of one the collapse's list is read off at once.
--- One such set is what is reached from home over free and turning zones, and from where a carrier leaves to where it starts.
-use Prim.Native.Nat.{ℕ, _*_, _<_}
+-- Each is least, so each is within the other; a zone is marked merged exactly where its carrier leaves at a point of them.
+use Prim.Native.Nat.{ℕ, _<_}
 use mathlib.Core.List.{map}
 use mathlib.Core.Path.{_≡_, refl, sym, _∙_, ap}
 use mathlib.Core.Logic.{_↔_}
 use mathlib.Core.Bool.{Bool, true, false, not, _&&_}
 use Rattle.model.specs.Lists.{below, keep, ascending}
-use Rattle.model.specs.Track.{Track, zoneOf, start, leave}
-use Rattle.model.specs.Position.{Position, at, carrierOf, isFree, Stands}
+use Rattle.model.specs.Track.{Track, leave}
+use Rattle.model.specs.Position.{Position, at, carrierOf, isFree}
 use Rattle.model.specs.Accepted.{Laid}
 use Rattle.model.proofs.ListLaws.{mem-below, keep-ext}
-use Rattle.rules.specs.Collapse.{freeParts, turns, standing, mergeAll, left}
-use Rattle.blocking.proofs.HomeSet.{Closed, HomeSet}
+use Rattle.rules.specs.Collapse.{standing, mergeAll, left}
+use Rattle.blocking.proofs.HomeSet.{HomeSet}
 use Rattle.blocking.proofs.Loops.{alike}
 use Rattle.blocking.proofs.Merging.{marked, leaves-in}
 use Rattle.blocking.proofs.HomeClass.{home-class, marked-leaves}
@@ -38,23 +38,3 @@ left-by-test {t} {p} laid inside home = ap (λ l. ascending (map (λ z. carrierO
     by : (z : ℕ) → z < t .zones → (b : Bool) → isFree p z ≡ b → stays z ≡ outside z
     by z h true f = ap (λ (b : Bool). not b && not (marked (mergeAll t p) z)) f ∙ sym (ap (λ (b : Bool). not b && not (inside (leave t (standing t p z)))) f)
     by z h false f = ap (λ (b : Bool). not (isFree p z) && not b) (same z h f)
-
--- reached from home
-pub data Reached (t : Track) (p : Position) : ℕ → Type 0 where
-  at-home : Reached t p (t .home)
-  over-free : (w : ℕ) → w < 2 * t .zones → isFree p (zoneOf w) ≡ true → Reached t p (start t w) → Reached t p (leave t w)
-  over-turning : (w : ℕ) → w < 2 * t .zones → turns t p (freeParts t p) (zoneOf w) ≡ true → Reached t p (start t w) → Reached t p (leave t w)
-  behind : (c w : ℕ) → Stands p c w → Reached t p (leave t w) → Reached t p (start t w)
-
-reached-keeps : {t : Track} {p : Position} (S : ℕ → Type 0) → Closed t p S → {q : ℕ} → Reached t p q → S q
-reached-keeps S c at-home = c .has-home
-reached-keeps S c (over-free w h f r) = c .over-free w h f (reached-keeps S c r)
-reached-keeps S c (over-turning w h e r) = c .over-turning w h e (reached-keeps S c r)
-reached-keeps S c (behind d w s r) = c .behind d w s (reached-keeps S c r)
-
-pub reached-home-set : (t : Track) (p : Position) → HomeSet t p (Reached t p)
-reached-home-set t p =
-    record {
-      closed = record { has-home = at-home; over-free = over-free; over-turning = over-turning; behind = behind };
-      least = λ S c q h r. reached-keeps S c r;
-    }

@@ -44,7 +44,7 @@ pub record Queued (m : ℕ) (words froms seen : List ℕ) (found : ℕ) : Type 0
   pub marks : (v : ℕ) → v < m → eqb (getD seen v 0) 1 ≡ any (eqb v) (take found words)
   pub counted : count (λ v. eqb (getD seen v 0) 1) (below m) ≡ found
 
--- what an offering asks: the word at place i is `last`
+-- what an offering asks of a word `last` found at place i
 pub record Offering (zones : ℕ) (ends p first after : List ℕ) (last i : ℕ) (words froms seen : List ℕ) (found : ℕ) : Type 0 where
   pub tables : Tables zones ends p first after
   pub word : last < 2 * zones

@@ -36,6 +36,7 @@ pub record EntryRoom (carrier place : ℕ) (words froms plan : List ℕ) (k : �
   -- no route to a place has more words than there are places up to it
   pub room : k + 3 + place ≤ length plan
 
+-- what it gives: where the next entry starts, and the plan with this one in it
 pub record EntryWritten (carrier place : ℕ) (words froms plan : List ℕ) (k : ℕ) (plan′ : List ℕ) (r : ℕ) : Type 0 where
   pub next : r ≡ k + length (entryOf carrier (routeTo words froms place))
   pub stored : plan′ ≡ pasted k (entryOf carrier (routeTo words froms place)) plan

@@ -18,6 +18,7 @@ use Rattle.search.specs.declared.Goes.the-variants.{From, Nobody}
 abbrev pub homeward : ℕ → ℕ → List ℕ → Track
 homeward home zones ends = record { points = 0; home = home; zones = zones; ends = ends }
 
+-- what the search over the carriers asks: no carrier in two zones, no number 1, tables, order, and room for a queue of all words
 pub record Seeking (zones : ℕ) (ends p first after order : List ℕ) (count : ℕ) (words froms : List ℕ) : Type 0 where
   pub tables : Tables zones ends p first after
   pub once : Once p
@@ -39,10 +40,12 @@ pub record Given (zones : ℕ) (p : Position) (words froms : List ℕ) (zone pla
   pub few : place < 2 * zones
   pub readable : Readable words froms place
 
+-- of an answer that names nobody nothing is said
 abbrev pub GivenBy : ℕ → Position → List ℕ → List ℕ → Goes → Type 0
 GivenBy zones p words froms (From zone place) = Given zones p words froms zone place
 GivenBy zones p words froms Nobody = Unit {0}
 
+-- what it gives: the entry of the carrier that leaves next, or none
 pub record Sought (home zones : ℕ) (ends p words froms : List ℕ) (r : Goes) : Type 0 where
   pub entry : entryGiven p words froms r ≡ firstToGo (homeward home zones ends) p (outs p)
   pub given : GivenBy zones p words froms r

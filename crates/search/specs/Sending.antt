@@ -9,6 +9,7 @@ use Rattle.model.specs.Accepted.{Laid}
 use Rattle.rules.specs.Key.{run, planWords}
 use Rattle.search.specs.Leaving.{Seeking}
 
+-- a track of these numbers
 abbrev pub trackOf : ℕ → ℕ → ℕ → List ℕ → Track
 trackOf points home zones ends = record { points = points; home = home; zones = zones; ends = ends }
 

@@ -59,7 +59,7 @@ pub fn damaged(random: &mut Random, board: &Board) -> Vec<u8> {
                 let more = random.below(9);
                 bytes.extend((0..more).map(|_| random.next() as u8));
             }
-            2 if bytes.len() > 6 => {
+            2 if bytes.len() >= 14 => {
                 // A zone more or fewer, with the lengths put right: later rows are met.
                 bytes.truncate(6 + (bytes.len() - 6) / 4 * 4 - 4 * random.below(2));
                 set_lengths(&mut bytes);

@@ -116,11 +116,11 @@ fn main() {
         let sparse = 1 + random.below(4);
         let board = boards::accepted(&mut random, points, zones, sparse);
         compare_board(&mut tally, &mut random, &board);
-        if round % 8 == 0 && board.zones.len() <= 6 {
+        if round % 16 == 0 && board.zones.len() <= 6 {
             compare_exhaustive(&mut tally, &board);
         }
     }
-    for _ in 0..2_500 {
+    for _ in 0..600 {
         let points = 2 + random.below(40);
         let sparse = 1 + random.below(6);
         let zones = (2 * points).min(96).min(2 + random.below(95));
@@ -129,7 +129,7 @@ fn main() {
             compare_board(&mut tally, &mut random, &board);
         }
     }
-    for _ in 0..30_000 {
+    for _ in 0..25_000 {
         let points = 2 + random.below(5);
         let zones = 2 + random.below(6);
         let sparse = 1 + random.below(3);

@@ -12,10 +12,11 @@ pub struct Key {
 /// How many words after each word bring the carrier home, at least; none where no number does.
 fn distances(board: &Board, carrier: u32) -> Vec<Option<usize>> {
     let mut far: Vec<Option<usize>> = (0..board.words()).map(|w| (board.leave(w) == board.home).then_some(0)).collect();
+    let follow: Vec<Vec<usize>> = (0..board.words()).map(|w| (0..board.words()).filter(|&v| board.may_follow(carrier, w, v)).collect()).collect();
     loop {
         let mut changed = false;
         for w in 0..board.words() {
-            let best = (0..board.words()).filter(|&v| board.may_follow(carrier, w, v)).filter_map(|v| far[v]).min().map(|d| d + 1);
+            let best = follow[w].iter().filter_map(|&v| far[v]).min().map(|d| d + 1);
             if let Some(d) = best {
                 if far[w].map_or(true, |old| d < old) {
                     far[w] = Some(d);

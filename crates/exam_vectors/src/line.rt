@@ -1,0 +1,138 @@
+// The lines of the input, read one character after another.
+use crate::say;
+ghost use Prim.Native.Nat.{_<_};
+
+// What was read of a line: the part that it is in (0 name, 1 operation, 2 numbers, 3 bytes), the last letter of the operation, and how many
+// numbers and bytes there are so far.
+struct Line {
+    part: u8,
+    last: u8,
+    numbers: usize,
+    bytes: usize,
+}
+
+// The value of a decimal or hexadecimal digit.
+fn digit(c: u8) -> u8
+    ensures { λ r. ⌜ r < 16 ⌝ }
+{
+    match c {
+        b'0'..=b'9' => c - b'0',
+        b'A'..=b'F' => c - b'A' + 10,
+        _ => 0,
+    }
+}
+
+// A space begins one more number; a digit is the next of the last number. Gives how many there are then.
+fn more_numbers(numbers: &mut [u16], n: usize, c: u8) -> usize {
+    if c == b' ' {
+        if numbers.len() <= n {
+            return n;
+        }
+        numbers[n] = 0;
+        return n + 1;
+    }
+    if n == 0 {
+        return n;
+    }
+    let i = n - 1;
+    if numbers.len() <= i {
+        return n;
+    }
+    let d = digit(c);
+    numbers[i] = numbers[i] % 6000 * 10 + d as u16;
+    n
+}
+
+fn more_bytes(bytes: &mut [u8], n: usize, c: u8) -> usize {
+    if c == b' ' {
+        if bytes.len() <= n {
+            return n;
+        }
+        bytes[n] = 0;
+        return n + 1;
+    }
+    if n == 0 {
+        return n;
+    }
+    let i = n - 1;
+    if bytes.len() <= i {
+        return n;
+    }
+    let d = digit(c);
+    bytes[i] = bytes[i] % 16 * 16 + d;
+    n
+}
+
+fn echo(c: u8) {
+    let text = [c];
+    io::write_all(1, &text);
+}
+
+// One more character within a line: the name and the operation are written as they come, up to the space or the colon after them.
+fn read_on(line: Line, c: u8, bytes: &mut [u8], numbers: &mut [u16]) -> Line {
+    let part = line.part;
+    if part == 0 {
+        echo(c);
+        return Line {
+            part: (c == b' ') as u8,
+            last: 0,
+            numbers: 0,
+            bytes: 0,
+        };
+    }
+    if c == b':' || part == 3 {
+        return Line {
+            part: 3,
+            last: line.last,
+            numbers: line.numbers,
+            bytes: more_bytes(bytes, line.bytes, c),
+        };
+    }
+    if c == b' ' || part == 2 {
+        return Line {
+            part: 2,
+            last: line.last,
+            numbers: more_numbers(numbers, line.numbers, c),
+            bytes: 0,
+        };
+    }
+    echo(c);
+    Line {
+        part: 1,
+        last: c,
+        numbers: 0,
+        bytes: 0,
+    }
+}
+
+// The end of a line: it is answered, and the next begins.
+fn answer(line: Line, bytes: &[u8], numbers: &[u16]) -> Line {
+    let n = say::bytes_in(line.bytes, bytes);
+    let m = say::numbers_in(line.numbers, numbers);
+    say::run(line.last, &bytes[..n], &numbers[..m]);
+    Line {
+        part: 0,
+        last: 0,
+        numbers: 0,
+        bytes: 0,
+    }
+}
+
+pub fn answer_all(text: &[u8], bytes: &mut [u8], numbers: &mut [u16]) {
+    let mut line = Line {
+        part: 0,
+        last: 0,
+        numbers: 0,
+        bytes: 0,
+    };
+    let mut i = 0;
+    while i < text.len() {
+        let c = text[i];
+        i += 1;
+        if c == b'\n' {
+            line = answer(line, bytes, numbers);
+            continue;
+        }
+        line = read_on(line, c, bytes, numbers);
+    }
+}

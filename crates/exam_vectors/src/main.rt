@@ -1,0 +1,15 @@
+// Runs the key, the collapse and the marker on the vectors of standard input. A line is a name, an operation, numbers in decimal, a colon
+// and the board's bytes in hexadecimal. The numbers are: for `key` the words lent for the plan and the bytes lent for the list, for
+// `collapse` the bytes lent, for `mark` the sheet. Each line is answered by the name, the operation and the number that it gives, and for
+// `key` and `collapse` by the lengths in the result and all of what was lent: what is not written still holds 60000 in the plan and 250
+// in the list.
+mod line;
+mod say;
+
+fn main() {
+    let mut text = io::large_buffer();
+    let n = io::read_full(0, &mut text);
+    let mut bytes = [0; 512];
+    let mut numbers = [0; 32];
+    line::answer_all(&text[..n], &mut bytes, &mut numbers);
+}

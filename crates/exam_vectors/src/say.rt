@@ -1,0 +1,94 @@
+// The operations, and what they give written out.
+ghost use Rattle.io.specs.Counts.{Counts};
+
+fn item(n: u64) {
+    io::write_all(1, b" ");
+    io::print_decimal(1, n);
+}
+
+fn say_plan(plan: &[u16]) {
+    io::write_all(1, b" plan");
+    let mut i = 0;
+    while i < plan.len() {
+        item(plan[i] as u64);
+        i += 1;
+    }
+}
+
+fn say_list(list: &[u8]) {
+    io::write_all(1, b" list");
+    let mut i = 0;
+    while i < list.len() {
+        item(list[i] as u64);
+        i += 1;
+    }
+}
+
+fn say_key(bytes: &[u8], plan: &mut [u16], list: &mut [u8]) {
+    let key = exam::key(bytes, plan, list);
+    item(key.verdict as u64);
+    io::write_all(1, b" words");
+    item(key.words as u64);
+    io::write_all(1, b" count");
+    item(key.count as u64);
+    say_plan(plan);
+    say_list(list);
+}
+
+fn say_collapse(bytes: &[u8], list: &mut [u8]) {
+    let left = exam::collapse(bytes, list);
+    item(left.number as u64);
+    io::write_all(1, b" count");
+    item(left.count as u64);
+    say_list(list);
+}
+
+// n of these numbers, or all where there are fewer.
+pub fn numbers_in(n: usize, numbers: &[u16]) -> usize
+    ensures { λ r. ⌜ Counts r (now (numbers .entry)) ⌝ }
+{
+    if n < numbers.len() {
+        return n;
+    }
+    numbers.len()
+}
+
+pub fn bytes_in(n: usize, bytes: &[u8]) -> usize
+    ensures { λ r. ⌜ Counts r (now (bytes .entry)) ⌝ }
+{
+    if n < bytes.len() {
+        return n;
+    }
+    bytes.len()
+}
+
+fn number(numbers: &[u16], i: usize) -> usize {
+    if i < numbers.len() {
+        return numbers[i] as usize;
+    }
+    0
+}
+
+fn run_key(bytes: &[u8], numbers: &[u16]) {
+    let mut plan = [60000u16; 24];
+    let mut list = [250u8; 4];
+    let words = numbers_in(number(numbers, 0), &plan);
+    let count = bytes_in(number(numbers, 1), &list);
+    say_key(bytes, &mut plan[..words], &mut list[..count]);
+}
+
+fn run_collapse(bytes: &[u8], numbers: &[u16]) {
+    let mut list = [250u8; 4];
+    let count = bytes_in(number(numbers, 0), &list);
+    say_collapse(bytes, &mut list[..count]);
+}
+
+// The operation by its last letter: `key`, `collapse` or `mark`.
+pub fn run(last: u8, bytes: &[u8], numbers: &[u16]) {
+    match last {
+        b'y' => run_key(bytes, numbers),
+        b'e' => run_collapse(bytes, numbers),
+        _ => item(exam::mark(bytes, numbers) as u64),
+    }
+    io::write_all(1, b"\n");
+}

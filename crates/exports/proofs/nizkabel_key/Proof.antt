@@ -1,0 +1,44 @@
+-- `nizkabel_key` keeps the key's promise: the two lengths are small enough for 32 bits, and stand in `out`.
+use borrow.Author.Needs.{needs}
+use native.Mathlib.Omega.{arith}
+use denote.Ref.{now}
+use lib.ListN.{length}
+use Rattle.exam.proofs.ReadBoard.{Bytes}
+use Rattle.exports.proofs.Lengths.{few-words, few-blocked}
+use Rattle.exports.proofs.nizkabel_key.Statement.{statement}
+use Rattle.exports.proofs.nizkabel_key.Tie as tie
+
+abbrev entry : tie.After-key → tie.Start
+entry c = c .before .before .before .before .before .before
+
+-- the bytes that were lent
+bytes : (c : tie.After-key) → Bytes (now (entry c .args .board))
+bytes c i = c .before .before .before .before .before .shared-slice-known .given i .fits
+
+key-requires : tie.Need-key-requires
+key-requires c κs = search needs
+
+cast-words : tie.Need-cast-words
+cast-words c =
+    let called = c .before .before .before .before .before in
+    let start = entry called in
+    omega (arith, called .key .ensures .given .words-are, few-words (now (start .args .board)) (bytes called) (length (now (start .args .plan))) (length (now (start .args .list))))
+
+cast-count : tie.Need-cast-count
+cast-count c =
+    let called = c .before .before .before .before .before .before in
+    let start = entry called in
+    omega (arith, called .key .ensures .given .count-is, few-blocked (now (start .args .board)) (bytes called) (length (now (start .args .plan))) (length (now (start .args .list))))
+
+same-length : tie.Need-same-length
+same-length c = search needs
+
+same-length-2 : tie.Need-same-length-2
+same-length-2 c = search needs
+
+returns : tie.Need-returns
+returns c = search needs
+
+pub nizkabel-key-spec : {M : Type 1} → statement M
+nizkabel-key-spec =
+    tie.close (tie.spec key-requires cast-words cast-count same-length same-length-2 returns)

@@ -1,5 +1,5 @@
 -- Laws of the list functions: members of what they give, one law for each way of taking a list apart.
--- Each goes by induction over the list; a test of the head is handed to a helper with its equation.
+-- Each goes by induction over the list; a test of the head is handed on with its equation.
 use Prim.Native.Nat.{ℕ, zero, suc, _+_, _≤_, _<_}
 use mathlib.Core.Path.{_≡_, refl, sym, _∙_, ap, ap₂, subst}
 use mathlib.Core.Logic.{_⊎_, inl, inr}

@@ -68,19 +68,24 @@ fn echo(c: u8) {
     io::write_all(1, &text);
 }
 
-// One more character within a line: the name and the operation are written as they come, up to the space or the colon after them.
-fn read_on(line: Line, c: u8, bytes: &mut [u8], numbers: &mut [u16]) -> Line {
-    let part = line.part;
-    if part == 0 {
-        echo(c);
-        return Line {
-            part: (c == b' ') as u8,
-            last: 0,
-            numbers: 0,
-            bytes: 0,
-        };
+// The part that this character is in: the name and the operation end with a space, the numbers with a colon.
+fn part_of(part: u8, c: u8) -> u8 {
+    if c == b':' {
+        return 3;
     }
-    if c == b':' || part == 3 {
+    if c != b' ' {
+        return part;
+    }
+    if part < 2 {
+        return part + 1;
+    }
+    part
+}
+
+// One more character of a line. The name and the operation are written out as they come.
+fn read_on(line: Line, c: u8, bytes: &mut [u8], numbers: &mut [u16]) -> Line {
+    let part = part_of(line.part, c);
+    if part == 3 {
         return Line {
             part: 3,
             last: line.last,
@@ -88,7 +93,7 @@ fn read_on(line: Line, c: u8, bytes: &mut [u8], numbers: &mut [u16]) -> Line {
             bytes: more_bytes(bytes, line.bytes, c),
         };
     }
-    if c == b' ' || part == 2 {
+    if part == 2 {
         return Line {
             part: 2,
             last: line.last,
@@ -98,7 +103,7 @@ fn read_on(line: Line, c: u8, bytes: &mut [u8], numbers: &mut [u16]) -> Line {
     }
     echo(c);
     Line {
-        part: 1,
+        part: part,
         last: c,
         numbers: 0,
         bytes: 0,

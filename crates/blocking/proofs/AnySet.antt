@@ -9,10 +9,10 @@ use Rattle.model.specs.Lists.{below, keep, ascending}
 use Rattle.model.specs.Track.{Track, leave}
 use Rattle.model.specs.Position.{Position, at, carrierOf, isFree}
 use Rattle.model.specs.Accepted.{Laid}
+use Rattle.model.proofs.BoolLaws.{same-test}
 use Rattle.model.proofs.ListLaws.{mem-below, keep-ext}
 use Rattle.rules.specs.Collapse.{standing, mergeAll, left}
 use Rattle.blocking.proofs.HomeSet.{HomeSet}
-use Rattle.blocking.proofs.Loops.{alike}
 use Rattle.blocking.proofs.Merging.{marked, leaves-in}
 use Rattle.blocking.proofs.HomeClass.{home-class, marked-leaves}
 
@@ -33,7 +33,7 @@ left-by-test {t} {p} laid inside home = ap (λ l. ascending (map (λ z. carrierO
     same : (z : ℕ) → z < t .zones → isFree p z ≡ false → marked (mergeAll t p) z ≡ inside (leave t (standing t p z))
     same z h f =
         let agree = home-sets-agree (home-class laid) home (leave t (standing t p z)) (leaves-in laid z h) in
-        alike (marked (mergeAll t p) z) (inside (leave t (standing t p z))) (λ e. agree .0 (marked-leaves laid z h f .0 e)) (λ e. marked-leaves laid z h f .1 (agree .1 e))
+        same-test (marked (mergeAll t p) z) (inside (leave t (standing t p z))) (λ e. agree .0 (marked-leaves laid z h f .0 e)) (λ e. marked-leaves laid z h f .1 (agree .1 e))
 
     by : (z : ℕ) → z < t .zones → (b : Bool) → isFree p z ≡ b → stays z ≡ outside z
     by z h true f = ap (λ (b : Bool). not b && not (marked (mergeAll t p) z)) f ∙ sym (ap (λ (b : Bool). not b && not (inside (leave t (standing t p z)))) f)

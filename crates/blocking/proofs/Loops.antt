@@ -2,7 +2,7 @@
 -- The labels of the collapse meet the linked points of the walks here; above this file no label is read.
 use Prim.Native.Nat.{ℕ, _*_, _<_}
 use mathlib.Core.List.{List, []}
-use mathlib.Core.Path.{_≡_, refl, sym, _∙_, ap, ap₂}
+use mathlib.Core.Path.{_≡_, sym, _∙_, ap, ap₂}
 use mathlib.Core.Logic.{_↔_}
 use mathlib.Core.Bool.{Bool, true, false, not, _&&_}
 use native.Mathlib.Omega.{arith}
@@ -14,6 +14,7 @@ use Rattle.model.specs.Position.{Position, at, isFree, Stands}
 use Rattle.model.specs.Labels.{label}
 use Rattle.model.specs.Accepted.{Laid}
 use Rattle.rules.specs.Collapse.{freeParts, loopIn, turns, standing}
+use Rattle.model.proofs.BoolLaws.{same-test}
 use Rattle.model.proofs.CountLaws.{count-below-ext}
 use Rattle.model.proofs.PositionLaws.{stands-word}
 use Rattle.model.proofs.LinkLaws.{linked-mono}
@@ -21,12 +22,6 @@ use Rattle.model.proofs.LabelLaws.{parts-linked, linked-parts}
 use Rattle.turning.specs.Walks.{Walk}
 use Rattle.turning.proofs.Turning.{turns-with-loop, no-turn-without}
 use Rattle.blocking.proofs.Standings.{free-number, number-free, stands-not-free}
-
--- two tests that pass alike
-pub alike : (a b : Bool) → (a ≡ true → b ≡ true) → (b ≡ true → a ≡ true) → a ≡ b
-alike true b f g = sym (f refl)
-alike false true f g = g refl
-alike false false f g = refl
 
 -- a carrier turns where the part that it heads into holds a loop
 pub turns-loop : (t : Track) (ls : List ℕ) {p : Position} {c w : ℕ} → Stands p c w → turns t p ls (zoneOf w) ≡ loopIn t p ls (label ls (leave t w))
@@ -73,4 +68,4 @@ module _ {t : Track} {p : Position} (laid : Laid t p) where
         (count-below-ext (λ z. isFree p z && within (start t (2 * z))) (λ z. isFree p z && test (start t (2 * z))) (t .zones) (λ z h. ap (λ (b : Bool). isFree p z && b) (same (start t (2 * z)) (laid .inside (2 * z) (omega arith)))))
       where
         same : (q : ℕ) → q < t .points → within q ≡ test q
-        same q h = alike (within q) (test q) (λ e. agrees q h .1 (within-linked q h .0 e)) (λ e. within-linked q h .1 (agrees q h .0 e))
+        same q h = same-test (within q) (test q) (λ e. agrees q h .1 (within-linked q h .0 e)) (λ e. within-linked q h .1 (agrees q h .0 e))

@@ -15,7 +15,7 @@ use Rattle.model.specs.Track.{Track, start, leave}
 use Rattle.model.specs.Position.{Position, at, carrierOf, isFree, outs}
 use Rattle.model.specs.Labels.{label, join}
 use Rattle.model.specs.Accepted.{Laid}
-use Rattle.model.proofs.BoolLaws.{both-ways, not-true-false, decided, and-left, and-right}
+use Rattle.model.proofs.BoolLaws.{both-ways, not-true-false, decided, and-left, and-right, and-both}
 use Rattle.model.proofs.ListLaws.{length-below, mem-below, below-mem, any-below, any-below-false, count-mono, count-less, foldLeft-keeps, times-keeps}
 use Rattle.model.proofs.AscendingLaws.{length-ascending}
 use Rattle.model.proofs.PlaceLaws.{map-ext, getD-map-below}
@@ -42,10 +42,6 @@ waits t p m z = not (isFree p z) && not (marked m z)
 
 abbrev waiting : Track → Position → Merging → ℕ
 waiting t p m = count (waits t p m) (below (t .zones))
-
-and-true : (a b : Bool) → a ≡ true → b ≡ true → (a && b) ≡ true
-and-true true b e q = q
-and-true false b e q = e
 
 and-second : (a b : Bool) → b ≡ false → (a && b) ≡ false
 and-second true b q = q
@@ -111,7 +107,7 @@ module _ {t : Track} {p : Position} (laid : Laid t p) where
       waited z i e =
           let open-now : marked (round t p m) z ≡ false = not-true (marked (round t p m) z) (and-right (not (isFree p z)) (not (marked (round t p m) z)) e) in
           let open-before : marked m z ≡ false = not-true-false (marked m z) (λ q. both-ways (grown .still-marked z q) open-now) in
-          and-true (not (isFree p z)) (not (marked m z)) (and-left (not (isFree p z)) (not (marked (round t p m) z)) e) (ap not open-before)
+          and-both (not (isFree p z)) (not (marked m z)) (and-left (not (isFree p z)) (not (marked (round t p m) z)) e) (ap not open-before)
 
       by : (any new (below (t .zones)) ≡ true) ⊎ (any new (below (t .zones)) ≡ false) → Settled t p m ⊎ (waiting t p (round t p m) < waiting t p m)
       by (inl e) =
@@ -122,12 +118,12 @@ module _ {t : Track} {p : Position} (laid : Laid t p) where
           let now : marked (round t p m) z ≡ true = fold-marks (below (t .zones)) (λ x j. mem-below (t .zones) j) z i m s leads in
           inr
           (count-less (waits t p (round t p m)) (waits t p m) (below (t .zones)) waited i (and-second (not (isFree p z)) (not (marked (round t p m) z)) (ap not now))
-          (and-true (not (isFree p z)) (not (marked m z)) (ap not (leads-held laid m z leads)) (and-right (leadsHome t p (m .labels) z) (not (marked m z)) (k .2))))
+          (and-both (not (isFree p z)) (not (marked m z)) (ap not (leads-held laid m z leads)) (and-right (leadsHome t p (m .labels) z) (not (marked m z)) (k .2))))
       by (inr e) = inl (λ z h leads. settle z leads (decided (marked m z)) (any-below-false new (t .zones) e z h))
         where
           settle : (z : ℕ) → leadsHome t p (m .labels) z ≡ true → (marked m z ≡ true) ⊎ (marked m z ≡ false) → new z ≡ false → marked m z ≡ true
           settle z leads (inl q) n = q
-          settle z leads (inr q) n = both-ways (and-true (leadsHome t p (m .labels) z) (not (marked m z)) leads (ap not q)) n
+          settle z leads (inr q) n = both-ways (and-both (leadsHome t p (m .labels) z) (not (marked m z)) leads (ap not q)) n
 
   rounds-settle : (n : ℕ) (m : Merging) → Sound t p m → Settled t p (times n (round t p) m) ⊎ (waiting t p (times n (round t p) m) + n ≤ waiting t p m)
   rounds-settle zero m s = inr (omega arith)
@@ -194,5 +190,5 @@ module _ {t : Track} {p : Position} (laid : Laid t p) where
           let most : waiting t p (before t p) ≤ length (outs p) = few-waiting in
           let some : count (λ (x : ℕ). false) (below (t .zones)) < waiting t p last =
           count-less (λ x. false) (waits t p last) (below (t .zones)) (λ x i q. both-ways q refl) (below-mem (t .zones) z h) refl
-          (and-true (not (isFree p z)) (not (marked last z)) (ap not (leads-held laid last z leads)) (ap not e)) in
+          (and-both (not (isFree p z)) (not (marked last z)) (ap not (leads-held laid last z leads)) (ap not e)) in
           absurd (omega arith)

@@ -1,11 +1,11 @@
 -- Filling an array from the front: what it holds after each store, and that at the end it is the board's list made long enough by zeros.
 -- The list is split at the place that is stored to.
-use Prim.Native.Nat.{ℕ, zero, suc, _+_, _-_, _*_, _/_, _%_, _≤_, _<_}
+use Prim.Native.Nat.{ℕ, suc, _+_, _-_, _*_, _/_, _%_, _≤_, _<_}
 use native.Mathlib.Omega.{arith}
 use native.Mathlib.Numerals.{add-one}
 use mathlib.Core.List.{List, [], _∷_, _++_, map, map-append, append-assoc}
-use mathlib.Core.Path.{_≡_, refl, sym, _∙_, ap, ap₂}
-use lib.ListN.{length, getD, set, replicate, length-map}
+use mathlib.Core.Path.{_≡_, sym, _∙_, ap, ap₂}
+use lib.ListN.{length, set, replicate, length-map, length-append, length-replicate}
 use lib.Seq.{set-at}
 use Rattle.model.specs.Lists.{below}
 use Rattle.model.specs.Reading.{byte, trackSaid, positionSaid, zonesSaid, carrierIn, headingIn}
@@ -13,17 +13,16 @@ use Rattle.model.proofs.ListLaws.{length-below, below-suc}
 use Rattle.board.specs.Given.{padded}
 use Rattle.board.specs.Tables.{ByteAt, endSaid}
 
-pub getD-zeros : (n i : ℕ) → _≡_ {A = ℕ} (getD (replicate n 0) i 0) 0
-getD-zeros zero i = refl
-getD-zeros (suc n) zero = refl
-getD-zeros (suc n) (suc i) = getD-zeros n i
-
 -- n places: f of each of the first w, then zeros
 abbrev pub filled : ℕ → (ℕ → ℕ) → ℕ → List ℕ
 filled n f w = map f (below w) ++ replicate (n - w) 0
 
 pub length-mapped : (f : ℕ → ℕ) (w : ℕ) → length (map f (below w)) ≡ w
 length-mapped f w = length-map (below w) f ∙ length-below w
+
+filled-size : {e : List ℕ} (n : ℕ) (f : ℕ → ℕ) (w : ℕ) → e ≡ filled n f w → w ≤ n → length e ≡ n
+filled-size n f w e l =
+    ap length e ∙ length-append (map f (below w)) (replicate (n - w) 0) ∙ ap₂ (λ (x y : ℕ). x + y) (length-mapped f w) (length-replicate (n - w) 0) ∙ omega arith
 
 pub map-next : (f : ℕ → ℕ) (n : ℕ) → map f (below (n + 1)) ≡ map f (below n) ++ (f n ∷ [])
 map-next f n = ap (λ (k : ℕ). map f (below k)) (add-one n) ∙ ap (map f) (below-suc n) ∙ map-append f (below n) (n ∷ [])
@@ -53,20 +52,33 @@ pub position-filled : (b : List ℕ) → padded 96 (positionSaid b) ≡ filled 9
 unfolding positionSaid
 position-filled b = padded-is 96 (heldSaid b) (zonesSaid b)
 
--- a turn of each loop, and its end
+-- a turn of the loop, and its end
+
+-- both arrays keep their length
+module _ {b : List ℕ} {n z : ℕ} (few : zonesSaid b ≤ 96) (N : ByteAt b 5 n) (l : z ≤ n) where
+  within : z ≤ 96
+  within = let s : n ≡ zonesSaid b = N .is in omega arith
+
+  pub ends-size : {e : List ℕ} → e ≡ filled 192 (endSaid b) (2 * z) → length e ≡ 192
+  ends-size h = filled-size 192 (endSaid b) (2 * z) h (let k : z ≤ 96 = within in omega arith)
+
+  pub position-size : {e : List ℕ} → e ≡ filled 96 (heldSaid b) z → length e ≡ 96
+  position-size h = filled-size 96 (heldSaid b) z h within
+
+-- the ends of a zone are where its two words start
+module _ {b : List ℕ} {p : ℕ} (z : ℕ) where
+  pub first-end : ByteAt b (4 * z + 6) p → p ≡ endSaid b (2 * z)
+  first-end P = P .is ∙ ap (byte b) (let i : 4 * z + 6 ≡ 4 * (2 * z / 2) + 2 * z % 2 + 6 = omega arith in i)
+
+  pub second-end : ByteAt b (4 * z + 7) p → p ≡ endSaid b (2 * z + 1)
+  second-end P = P .is ∙ ap (byte b) (let i : 4 * z + 7 ≡ 4 * ((2 * z + 1) / 2) + (2 * z + 1) % 2 + 6 = omega arith in i)
 
 pub ends-next : {b e : List ℕ} {z p q : ℕ} → e ≡ filled 192 (endSaid b) (2 * z) → ByteAt b (4 * z + 6) p → ByteAt b (4 * z + 7) q → z < 96 → set (set e (2 * z) p) (2 * z + 1) q ≡ filled 192 (endSaid b) (2 * (z + 1))
 ends-next {b} {e} {z} {p} {q} h P Q l =
-    ap (λ (r : List ℕ). set r (2 * z + 1) q) (ap₂ (λ (r : List ℕ) (v : ℕ). set r (2 * z) v) h first ∙ filled-next 192 (endSaid b) (2 * z) (omega arith)) ∙
-    ap (set (filled 192 (endSaid b) (2 * z + 1)) (2 * z + 1)) second ∙
+    ap (λ (r : List ℕ). set r (2 * z + 1) q) (ap₂ (λ (r : List ℕ) (v : ℕ). set r (2 * z) v) h (first-end z P) ∙ filled-next 192 (endSaid b) (2 * z) (omega arith)) ∙
+    ap (set (filled 192 (endSaid b) (2 * z + 1)) (2 * z + 1)) (second-end z Q) ∙
     filled-next 192 (endSaid b) (2 * z + 1) (omega arith) ∙
     ap (filled 192 (endSaid b)) (let n : 2 * z + 1 + 1 ≡ 2 * (z + 1) = omega arith in n)
-  where
-    first : p ≡ endSaid b (2 * z)
-    first = P .is ∙ ap (byte b) (let i : 4 * z + 6 ≡ 4 * (2 * z / 2) + 2 * z % 2 + 6 = omega arith in i)
-
-    second : q ≡ endSaid b (2 * z + 1)
-    second = Q .is ∙ ap (byte b) (let i : 4 * z + 7 ≡ 4 * ((2 * z + 1) / 2) + (2 * z + 1) % 2 + 6 = omega arith in i)
 
 pub ends-last : {b e : List ℕ} {z n : ℕ} → e ≡ filled 192 (endSaid b) (2 * z) → ByteAt b 5 n → z ≤ n → n ≤ z → e ≡ padded 192 (trackSaid b .ends)
 ends-last {b} {e} {z} {n} h N i j = h ∙ ap (filled 192 (endSaid b)) (let s : n ≡ zonesSaid b = N .is in let q : 2 * z ≡ 2 * zonesSaid b = omega arith in q) ∙ sym (ends-filled b)

@@ -12,11 +12,12 @@ use borrow.Author.Tests.{eq-eqb, ne-eqb, eqb-true}
 use Rattle.model.specs.Track.{start}
 use Rattle.model.specs.Position.{at}
 use Rattle.model.specs.Reading.{zonesSaid, trackSaid, positionSaid, refusal}
+use Rattle.model.proofs.ListLaws.{getD-zeros}
 use Rattle.model.proofs.ReadingLaws.{no-row, in-range, length-ends, length-position}
-use Rattle.board.proofs.Filling.{getD-zeros}
+use Rattle.board.proofs.Order.{whole}
 use Rattle.board.specs.declared.Board.{Board}
 use Rattle.board.specs.Given.{padded, boardSaid, boardRefused, boardOf}
-use Rattle.board.specs.Tables.{ByteAt}
+use Rattle.board.specs.Tables.{ByteAt, Whole}
 
 -- lists made longer by zeros
 
@@ -55,14 +56,18 @@ given-number b = go (eqb (refusal b) 0) refl
     go true e = sym (eqb-true (refusal b) 0 e)
     go false e = refl
 
--- how `read` meets it
+-- how `read_into` meets it
 
 module _ (b : List ℕ) {n : ℕ} (N : n ≡ refusal b) where
-  pub refused-is : (n ≡ 0 → ⊥) → boardRefused n ≡ boardOf b
-  refused-is k = ap boardRefused N ∙ sym (given-refused b (λ e. k (N ∙ e)))
+  pub refused-is : (n ≡ 0 → ⊥) → {e s : List ℕ} → e ≡ replicate 192 0 → s ≡ replicate 96 0 → _≡_ {A = Board} (record { number = n; points = 0; home = 0; zones = 0; ends = e; position = s }) (boardOf b)
+  unfolding boardRefused
+  refused-is k E S = (λ i. record { number = N i; points = 0; home = 0; zones = 0; ends = E i; position = S i }) ∙ sym (given-refused b (λ e. k (N ∙ e)))
 
   pub few-zones : n ≡ 0 → zonesSaid b ≤ 96
   few-zones e = in-range b (no-row b (sym N ∙ e)) .zones-most
+
+  pub whole-read : n ≡ 0 → Whole b
+  whole-read e = let r = no-row b (sym N ∙ e) in whole b (r .length-said) (r .zone-count)
 
   pub said-is : n ≡ 0 → {p h z : ℕ} {e s : List ℕ} → ByteAt b 3 p → ByteAt b 4 h → ByteAt b 5 z → e ≡ padded 192 (trackSaid b .ends) → s ≡ padded 96 (positionSaid b) → _≡_ {A = Board} (record { number = 0; points = p; home = h; zones = z; ends = e; position = s }) (boardOf b)
   unfolding boardSaid

@@ -16,7 +16,7 @@ use Rattle.model.specs.Track.{Linked, rev, start, leave}
 use Rattle.model.specs.Track.Linked.{here}
 use Rattle.model.specs.Labels.{label, parts}
 use Rattle.model.specs.Reading.{byte, pointsSaid, homeSaid, zonesSaid, endA, endB, outOfRange, badZone, trackSaid, apart}
-use Rattle.model.proofs.ListLaws.{any-below-false, all-below, below-all}
+use Rattle.model.proofs.ListLaws.{any-below-false, all-below, below-all, getD-zeros}
 use Rattle.model.proofs.WordLaws.{rev-below}
 use Rattle.model.proofs.LinkLaws.{linked-trans, linked-word, linked-keeps}
 use Rattle.model.proofs.LabelLaws.{parts-linked, linked-parts}
@@ -26,8 +26,8 @@ use Rattle.points.specs.Sets.Reach.{here as stays, on}
 use Rattle.points.proofs.BitLaws.{bit-none}
 use Rattle.points.proofs.WayLaws.{added, added-way, added-old, added-new}
 use Rattle.points.proofs.FullLaws.{size-reached, reached-size}
-use Rattle.board.proofs.Filling.{getD-zeros}
-use Rattle.board.specs.Tables.{ByteAt, endSaid, Inside}
+use Rattle.board.proofs.Filling.{first-end, second-end}
+use Rattle.board.specs.Tables.{ByteAt, endSaid, Inside, Led}
 
 both : (p q r s t : Bool) → not (p && (q && (r && (s && t)))) ≡ false → (q ≡ true) × (r ≡ true)
 both true true true s t e = (refl, refl)
@@ -63,59 +63,68 @@ module _ (b : List ℕ) (range : outOfRange b ≡ false) (zones : any (badZone b
     word-in = start-in;
   }
 
--- the ways are those of the first w words
-pub record Led (b ways : List ℕ) (w : ℕ) : Type 0 where
-  pub size : length ways ≡ 64
-  pub led : (v : ℕ) → v < w → hasBit (getD ways (endSaid b v) 0) (endSaid b (rev v)) ≡ true
-  pub no-other : (q r : ℕ) → hasBit (getD ways q 0) r ≡ true → (v : ℕ) × (v < w) × (endSaid b v ≡ q) × (endSaid b (rev v) ≡ r)
-
-pub led-first : (b : List ℕ) → Led b (replicate 64 0) 0
-led-first b = record {
+pub led-first : {b ways : List ℕ} → ways ≡ replicate 64 0 → Led b ways 0
+led-first {b} e = subst (λ (x : List ℕ). Led b x 0) (sym e) record {
   size = refl;
   led = λ v l. absurd (omega arith);
   no-other = λ q r e. absurd (false≢true (sym (ap (λ (x : ℕ). hasBit x r) (getD-zeros 64 q) ∙ bit-none r) ∙ e));
 }
 
-module _ {b ways : List ℕ} {w p q : ℕ} (L : Led b ways w) (P : ByteAt b (4 * (w / 2) + w % 2 + 6) p) (Q : ByteAt b (4 * (w / 2) + (1 - w % 2) + 6) q) where
-  leaves : endSaid b (rev w) ≡ q
-  leaves = ap (byte b) (let e : 4 * (rev w / 2) + rev w % 2 + 6 ≡ 4 * (w / 2) + (1 - w % 2) + 6 = omega arith in e) ∙ sym (Q .is)
+module _ {b ways : List ℕ} {w p q : ℕ} (L : Led b ways w) (P : p ≡ endSaid b w) (Q : q ≡ endSaid b (rev w)) (small : p < 64) where
+  in-ways : p < length ways
+  in-ways = subst (λ (n : ℕ). p < n) (sym (L .size)) small
 
-  module _ (small : p < 64) where
-    in-ways : p < length ways
-    in-ways = subst (λ (n : ℕ). p < n) (sym (L .size)) small
+  led-next : Led b (added ways p q) (w + 1)
+  led-next = record {
+    size = length-set ways p (bitOr (getD ways p 0) (2 ^ q)) ∙ L .size;
+    led = below-more (λ (v : ℕ). hasBit (getD (added ways p q) (endSaid b v) 0) (endSaid b (rev v)) ≡ true) w
+        (λ v l. added-old ways p q in-ways (endSaid b v) (endSaid b (rev v)) (L .led v l))
+        (subst₂ (λ (x y : ℕ). hasBit (getD (added ways p q) x 0) y ≡ true) P Q (added-new ways p q in-ways));
+    no-other = λ x y e. go x y (added-way ways p q in-ways x y e);
+  }
+    where
+      go : (x y : ℕ) → (hasBit (getD ways x 0) y ≡ true) ⊎ ((x ≡ p) × (y ≡ q)) → (v : ℕ) × (v < w + 1) × (endSaid b v ≡ x) × (endSaid b (rev v) ≡ y)
+      go x y (inl e) = let r = L .no-other x y e in (r .0, (let l : r .0 < w = r .1 in omega arith), r .2, r .3)
+      go x y (inr e) = (w, omega arith, sym P ∙ sym (e .0), sym Q ∙ sym (e .1))
 
-    led-next : Led b (added ways p q) (w + 1)
-    led-next = record {
-      size = length-set ways p (bitOr (getD ways p 0) (2 ^ q)) ∙ L .size;
-      led = below-more (λ (v : ℕ). hasBit (getD (added ways p q) (endSaid b v) 0) (endSaid b (rev v)) ≡ true) w
-          (λ v l. added-old ways p q in-ways (endSaid b v) (endSaid b (rev v)) (L .led v l))
-          (subst₂ (λ (x y : ℕ). hasBit (getD (added ways p q) x 0) y ≡ true) (P .is) (sym leaves) (added-new ways p q in-ways));
-      no-other = λ x y e. go x y (added-way ways p q in-ways x y e);
-    }
-      where
-        go : (x y : ℕ) → (hasBit (getD ways x 0) y ≡ true) ⊎ ((x ≡ p) × (y ≡ q)) → (v : ℕ) × (v < w + 1) × (endSaid b v ≡ x) × (endSaid b (rev v) ≡ y)
-        go x y (inl e) = let r = L .no-other x y e in (r .0, (let l : r .0 < w = r .1 in omega arith), r .2, r .3)
-        go x y (inr e) = (w, omega arith, sym (P .is) ∙ sym (e .0), leaves ∙ sym (e .1))
+pub added-size : {b ways next : List ℕ} {w i j p q : ℕ} → Led b ways w → ByteAt b i p → ByteAt b j q → next ≡ added ways p q → length next ≡ 64
+added-size {b} {ways} {next} {p = p} {q = q} L P Q e = ap length e ∙ length-set ways p (bitOr (getD ways p 0) (2 ^ q)) ∙ L .size
+
+-- the ends of a zone are points
+module _ {b : List ℕ} {n z p : ℕ} (I : Inside b) (N : ByteAt b 5 n) (l : z < n) where
+  word-small : (w : ℕ) → w < 2 * (z + 1) → p ≡ endSaid b w → p < 64
+  word-small w k e =
+      let m : pointsSaid b ≤ 64 = I .points-most in
+      let g : endSaid b w < pointsSaid b = I .word-in w (let s : n ≡ zonesSaid b = N .is in omega arith) in
+      omega arith
+
+  pub first-in : ByteAt b (4 * z + 6) p → p < 64
+  first-in P = word-small (2 * z) (omega arith) (first-end z P)
+
+  pub second-in : ByteAt b (4 * z + 7) p → p < 64
+  second-in P = word-small (2 * z + 1) (omega arith) (second-end z P)
 
 -- a turn of the loop, and its end
-module _ {b ways : List ℕ} {w p q z : ℕ} (I : Inside b) (L : Led b ways w) (P : ByteAt b (4 * (w / 2) + w % 2 + 6) p) (Q : ByteAt b (4 * (w / 2) + (1 - w % 2) + 6) q) (Z : ByteAt b 5 z) (l : w < 2 * z) where
-  pub way-in : (p < length ways) × (q < 64)
-  way-in =
-      let n : z ≡ zonesSaid b = Z .is in
-      let k : w < 2 * zonesSaid b = omega arith in
-      let s : length ways ≡ 64 = L .size in
-      let m : pointsSaid b ≤ 64 = I .points-most in
-      let i : p ≡ endSaid b w = P .is in
-      let j : endSaid b (rev w) ≡ q = leaves L P Q in
-      let g : endSaid b w < pointsSaid b = I .word-in w k in
-      let h : endSaid b (rev w) < pointsSaid b = I .word-in (rev w) (rev-below (zonesSaid b) w k) in
-      (omega arith, omega arith)
+pub led-zone : {b ways next last : List ℕ} (z : ℕ) {p q : ℕ} → Led b ways (2 * z) → ByteAt b (4 * z + 6) p → ByteAt b (4 * z + 7) q → p < 64 → q < 64 → next ≡ added ways p q → last ≡ added next q p → Led b last (2 * (z + 1))
+led-zone {b} {ways} {next} {last} z {p} {q} L P Q i j e f = subst₂ (Led b) (sym f) (let n : 2 * z + 1 + 1 ≡ 2 * (z + 1) = omega arith in n) (led-next there second first-back j)
+  where
+    first : p ≡ endSaid b (2 * z)
+    first = first-end z P
 
-  pub led-again : {after : List ℕ} → after ≡ added ways p q → Led b after (w + 1)
-  led-again {after} e = subst (λ (x : List ℕ). Led b x (w + 1)) (sym e) (led-next L P Q (subst (λ (n : ℕ). p < n) (L .size) (way-in .0)))
+    second : q ≡ endSaid b (2 * z + 1)
+    second = second-end z Q
 
-pub led-last : {b ways : List ℕ} {w z : ℕ} → Led b ways w → ByteAt b 5 z → w ≤ 2 * z → 2 * z ≤ w → Led b ways (2 * zonesSaid b)
-led-last {b} {ways} {w} {z} L Z i j = subst (Led b ways) (let s : z ≡ zonesSaid b = Z .is in let q : w ≡ 2 * zonesSaid b = omega arith in q) L
+    second-back : q ≡ endSaid b (rev (2 * z))
+    second-back = second ∙ ap (endSaid b) (let k : 2 * z + 1 ≡ rev (2 * z) = omega arith in k)
+
+    first-back : p ≡ endSaid b (rev (2 * z + 1))
+    first-back = first ∙ ap (endSaid b) (let k : 2 * z ≡ rev (2 * z + 1) = omega arith in k)
+
+    there : Led b next (2 * z + 1)
+    there = subst (λ (x : List ℕ). Led b x (2 * z + 1)) (sym e) (led-next L first second-back i)
+
+pub led-last : {b ways : List ℕ} {n z : ℕ} → ByteAt b 5 n → z ≤ n → n ≤ z → Led b ways (2 * z) → Led b ways (2 * zonesSaid b)
+led-last {b} {ways} {n} {z} N i j = subst (λ (x : ℕ). Led b ways (2 * x)) (let s : n ≡ zonesSaid b = N .is in let q : z ≡ zonesSaid b = omega arith in q)
 
 module _ {b ways : List ℕ} (I : Inside b) (L : Led b ways (2 * zonesSaid b)) where
   pub home-in-ways : {h : ℕ} → ByteAt b 4 h → h < length ways

@@ -1,17 +1,29 @@
 -- The rows in rising order: where the rows before one don't hold and it does, its number is the board's.
 -- The definition computes once each test is known.
-use Prim.Native.Nat.{ℕ}
+use Prim.Native.Nat.{ℕ, _+_, _*_, _≤_}
+use native.Mathlib.Omega.{arith}
 use mathlib.Core.List.{List}
-use mathlib.Core.Path.{_≡_, sym, _∙_}
-use mathlib.Core.Bool.{Bool, true, false}
+use mathlib.Core.Path.{_≡_, refl, sym, _∙_}
+use mathlib.Core.Bool.{Bool, true, false, not, cond, true≢false}
+use lib.ListN.{length}
+use borrow.Author.Tests.{eqb-true, ltb-false}
 use Rattle.model.specs.Lists.{below, any}
-use Rattle.model.specs.Reading.{tooShort, wrongLength, wrongVersion, outOfRange, wrongCount, badZone, repeated, thin, apart, refusal, zonesSaid, pointsSaid}
+use Rattle.model.specs.Reading.{tooShort, wrongLength, wrongVersion, outOfRange, wrongCount, badZone, repeated, thin, apart, refusal, lengthSaid, zonesSaid, pointsSaid}
+use Rattle.board.specs.Tables.{Whole, zoneRefusal, endRefusal}
 
 -- what a function answered is what the definition says
 pub told : {s t v : Bool} → s ≡ t → s ≡ v → t ≡ v
 told e f = sym e ∙ f
 
+not-false : (t : Bool) → not t ≡ false → t ≡ true
+not-false true e = refl
+not-false false e = absurd (true≢false e)
+
 module _ (b : List ℕ) where
+  -- rows 6 and 7, and a number for where neither holds
+  abbrev zonesThen : ℕ → ℕ
+  zonesThen n = cond (any (badZone b) (below (zonesSaid b))) 6 (cond (any (repeated b) (below (zonesSaid b))) 7 n)
+
   pub row-1 : tooShort b ≡ true → 1 ≡ refusal b
   unfolding refusal
   row-1 a = sym (simp a)
@@ -34,25 +46,70 @@ module _ (b : List ℕ) where
     row-5 f = sym (simp (a, c, d, e, f))
 
     module _ (f : wrongCount b ≡ false) where
-      pub row-6 : any (badZone b) (below (zonesSaid b)) ≡ true → 6 ≡ refusal b
-      unfolding refusal
-      row-6 g = sym (simp (a, c, d, e, f, g))
+      later-rows : refusal b ≡ zonesThen (endRefusal b)
+      unfolding refusal endRefusal
+      later-rows = simp (a, c, d, e, f)
 
-      module _ (g : any (badZone b) (below (zonesSaid b)) ≡ false) where
-        pub row-7 : any (repeated b) (below (zonesSaid b)) ≡ true → 7 ≡ refusal b
-        unfolding refusal
-        row-7 h = sym (simp (a, c, d, e, f, g, h))
+      pub rows-6-7 : {n : ℕ} → n ≡ zoneRefusal b → (n ≡ 0 → ⊥) → n ≡ refusal b
+      unfolding zoneRefusal
+      rows-6-7 {n} h k = h ∙ go (any (badZone b) (below (zonesSaid b))) (any (repeated b) (below (zonesSaid b))) (λ z. k (h ∙ z)) ∙ sym later-rows
+        where
+          go : (s t : Bool) → (_≡_ {A = ℕ} (cond s 6 (cond t 7 0)) 0 → ⊥) → _≡_ {A = ℕ} (cond s 6 (cond t 7 0)) (cond s 6 (cond t 7 (endRefusal b)))
+          go true t n = refl
+          go false true n = refl
+          go false false n = absurd (n refl)
 
-        module _ (h : any (repeated b) (below (zonesSaid b)) ≡ false) where
-          pub row-8 : any (thin b) (below (pointsSaid b)) ≡ true → 8 ≡ refusal b
-          unfolding refusal
-          row-8 i = sym (simp (a, c, d, e, f, g, h, i))
+      pub rows-8-9 : {m n : ℕ} → m ≡ zoneRefusal b → m ≡ 0 → n ≡ endRefusal b → n ≡ refusal b
+      unfolding zoneRefusal
+      rows-8-9 h k g = g ∙ sym (later-rows ∙ go (any (badZone b) (below (zonesSaid b))) (any (repeated b) (below (zonesSaid b))) (sym h ∙ k))
+        where
+          go : (s t : Bool) → _≡_ {A = ℕ} (cond s 6 (cond t 7 0)) 0 → cond s 6 (cond t 7 (endRefusal b)) ≡ endRefusal b
+          go true t n = absurd (omega arith)
+          go false true n = absurd (omega arith)
+          go false false n = refl
 
-          module _ (i : any (thin b) (below (pointsSaid b)) ≡ false) where
-            pub row-9 : apart b ≡ true → 9 ≡ refusal b
-            unfolding refusal
-            row-9 j = sym (simp (a, c, d, e, f, g, h, i, j))
+  -- rows 6 and 7 by their tests
+  pub row-6 : true ≡ any (badZone b) (below (zonesSaid b)) → 6 ≡ zoneRefusal b
+  unfolding zoneRefusal
+  row-6 e = sym (simp (sym e))
 
-            pub no-row : apart b ≡ false → 0 ≡ refusal b
-            unfolding refusal
-            no-row j = sym (simp (a, c, d, e, f, g, h, i, j))
+  pub row-7 : false ≡ any (badZone b) (below (zonesSaid b)) → true ≡ any (repeated b) (below (zonesSaid b)) → 7 ≡ zoneRefusal b
+  unfolding zoneRefusal
+  row-7 e f = sym (simp (sym e, sym f))
+
+  pub neither-6-7 : false ≡ any (badZone b) (below (zonesSaid b)) → false ≡ any (repeated b) (below (zonesSaid b)) → 0 ≡ zoneRefusal b
+  unfolding zoneRefusal
+  neither-6-7 e f = sym (simp (sym e, sym f))
+
+  pub no-bad-zone : zoneRefusal b ≡ 0 → any (badZone b) (below (zonesSaid b)) ≡ false
+  unfolding zoneRefusal
+  no-bad-zone = go (any (badZone b) (below (zonesSaid b)))
+    where
+      go : (s : Bool) → _≡_ {A = ℕ} (cond s 6 (cond (any (repeated b) (below (zonesSaid b))) 7 0)) 0 → s ≡ false
+      go true n = absurd (omega arith)
+      go false n = refl
+
+  -- rows 8 and 9 by their tests
+  pub row-8 : any (thin b) (below (pointsSaid b)) ≡ true → 8 ≡ endRefusal b
+  unfolding endRefusal
+  row-8 e = sym (simp e)
+
+  pub row-9 : any (thin b) (below (pointsSaid b)) ≡ false → apart b ≡ true → 9 ≡ endRefusal b
+  unfolding endRefusal
+  row-9 e f = sym (simp (e, f))
+
+  pub neither-8-9 : any (thin b) (below (pointsSaid b)) ≡ false → apart b ≡ false → 0 ≡ endRefusal b
+  unfolding endRefusal
+  neither-8-9 e f = sym (simp (e, f))
+
+  -- what rows 1, 2 and 5 leave
+  pub six : tooShort b ≡ false → 6 ≤ length b
+  unfolding tooShort
+  six e = ltb-false (length b) 6 e
+
+  pub whole : wrongLength b ≡ false → wrongCount b ≡ false → Whole b
+  unfolding wrongLength wrongCount
+  whole e f =
+      let l : lengthSaid b + 2 ≡ length b = eqb-true (lengthSaid b + 2) (length b) (not-false _ e) in
+      let k : lengthSaid b ≡ 4 + 4 * zonesSaid b = eqb-true (lengthSaid b) (4 + 4 * zonesSaid b) (not-false _ f) in
+      omega arith

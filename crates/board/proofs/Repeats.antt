@@ -3,16 +3,16 @@
 use Prim.Native.Nat.{ℕ, suc, _+_, _*_, _<_}
 use native.Mathlib.Omega.{arith}
 use native.Mathlib.Numerals.{add-one}
-use mathlib.Core.List.{List, [], _∷_, _++_}
+use mathlib.Core.List.{List, [], _∷_}
 use mathlib.Core.Path.{_≡_, refl, sym, _∙_, ap, subst}
-use mathlib.Core.Bool.{Bool, true, false, not, _&&_, _||_}
+use mathlib.Core.Bool.{Bool, true, false, not, _&&_, _||_, or-false}
 use lib.ListN.{length, getD, set, replicate, length-set, getD-replicate}
 use lib.Seq.{getD-set-same, getD-set-other}
 use lib.Dec.{eqb}
 use borrow.Author.Tests.{ne-eqb, eqb-true, eqb-false}
 use Rattle.model.specs.Lists.{below, any}
 use Rattle.model.specs.Reading.{repeated, carrierIn}
-use Rattle.model.proofs.ListLaws.{below-any, below-suc}
+use Rattle.model.proofs.ListLaws.{any-append, below-any, below-suc}
 use Rattle.board.specs.Tables.{ByteAt}
 
 -- carrier c stands in a zone before z
@@ -23,18 +23,6 @@ stoodBefore b c z = any (λ y. eqb (carrierIn b y) c) (below z)
 pub record Seen (b : List ℕ) (seen : List Bool) (z : ℕ) : Type 0 where
   pub size : length seen ≡ 256
   pub holds : (c : ℕ) → c < 256 → (c ≡ 0 → ⊥) → getD seen c false ≡ stoodBefore b c z
-
-any-append : (f : ℕ → Bool) (l m : List ℕ) → any f (l ++ m) ≡ (any f l || any f m)
-any-append f [] m = refl
-any-append f (a ∷ l) m = go (f a) (any-append f l m)
-  where
-    go : (t : Bool) → any f (l ++ m) ≡ (any f l || any f m) → (t || any f (l ++ m)) ≡ ((t || any f l) || any f m)
-    go true e = refl
-    go false e = e
-
-or-false : (t : Bool) → (t || false) ≡ t
-or-false true = refl
-or-false false = refl
 
 -- one that doesn't pass adds nothing
 any-next : (f : ℕ → Bool) (n : ℕ) → f n ≡ false → any f (below (suc n)) ≡ any f (below n)
@@ -67,9 +55,20 @@ module _ {b : List ℕ} {seen : List Bool} {z c : ℕ} (S : Seen b seen z) (C : 
   unfolding repeated
   repeated-is n = ap (λ (x : ℕ). not (eqb x 0) && stoodBefore b x z) (sym (C .is)) ∙ simp (ne-eqb c 0 n) (sym (S .holds c (C .small) n))
 
-  pub repeated-free : c ≡ 0 → repeated b z ≡ false
+  repeated-free : c ≡ 0 → repeated b z ≡ false
   unfolding repeated
   repeated-free e = ap (λ (x : ℕ). not (eqb x 0) && stoodBefore b x z) (sym (C .is) ∙ e)
 
-  pub repeated-held : (c ≡ 0 → ⊥) → (t : Bool) → getD seen c false ≡ t → repeated b z ≡ t
-  repeated-held n t e = repeated-is n ∙ e
+  -- whether a carrier stood before, of one zone more
+  module _ {t : Bool} (T : t ≡ any (repeated b) (below z)) where
+    same-next : repeated b z ≡ false → t ≡ any (repeated b) (below (z + 1))
+    same-next e = T ∙ sym (ap (λ (x : ℕ). any (repeated b) (below x)) (add-one z) ∙ any-next (repeated b) z e)
+
+    pub again-free : c ≡ 0 → t ≡ any (repeated b) (below (z + 1))
+    again-free e = same-next (repeated-free e)
+
+    pub again-new : (c ≡ 0 → ⊥) → getD seen c false ≡ false → t ≡ any (repeated b) (below (z + 1))
+    again-new n e = same-next (repeated-is n ∙ e)
+
+  pub again-met : (c ≡ 0 → ⊥) → getD seen c false ≡ true → true ≡ any (repeated b) (below (z + 1))
+  again-met n e = sym (below-any (repeated b) (z + 1) z (omega arith) (repeated-is n ∙ e))

@@ -10,7 +10,7 @@ use borrow.Author.Tests.{lt-ltb, le-ltb, le-leb, lt-leb, eq-eqb, ne-eqb, leb-tru
 use Rattle.model.specs.Reading.{wrongLength, wrongVersion, outOfRange, wrongCount, badZone}
 use Rattle.board.specs.Tables.{ByteAt}
 
-ltb-is : (m n : ℕ) → ltb m n ≡ not (leb n m)
+pub ltb-is : (m n : ℕ) → ltb m n ≡ not (leb n m)
 ltb-is m n = go (leb n m) refl
   where
     go : (t : Bool) → leb n m ≡ t → ltb m n ≡ not t

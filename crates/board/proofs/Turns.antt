@@ -3,7 +3,7 @@
 use Prim.Native.Nat.{ℕ, _+_, _≤_, _<_}
 use native.Mathlib.Omega.{arith}
 use mathlib.Core.List.{List}
-use mathlib.Core.Path.{_≡_, sym}
+use mathlib.Core.Path.{_≡_, sym, _∙_, ap}
 use mathlib.Core.Bool.{Bool, true, false}
 use borrow.Author.Count.{below-more}
 use Rattle.model.specs.Lists.{below, any}
@@ -30,3 +30,7 @@ module _ (f : ℕ → Bool) where
   -- the end was met
   pub none-met : {b : List ℕ} {i n z : ℕ} → ByteAt b i n → NoneYet f n z → n ≤ z → false ≡ any f (below (byte b i))
   none-met {b} {i} {n} {z} N y l = sym (below-any-false f (byte b i) (λ x k. y .none x (let s : n ≡ byte b i = N .is in omega arith)))
+
+-- what is known of all numbers met is known of all that the byte says
+pub all-met : (f : ℕ → Bool) {b : List ℕ} {i n z : ℕ} {t : Bool} → ByteAt b i n → z ≤ n → n ≤ z → t ≡ any f (below z) → t ≡ any f (below (byte b i))
+all-met f {b} {i} {n} {z} N l k e = e ∙ ap (λ (x : ℕ). any f (below x)) (let s : n ≡ byte b i = N .is in let q : z ≡ byte b i = omega arith in q)

@@ -7,6 +7,7 @@ use lib.ListN.{length, replicate}
 use lib.Dec.{eqb}
 use Rattle.model.specs.Reading.{pointsSaid, homeSaid, zonesSaid, trackSaid, positionSaid, refusal}
 use Rattle.board.specs.declared.Board.{Board}
+use Rattle.board.specs.declared.BoardHead.{BoardHead}
 
 -- a list made n long by zeros at its end
 unfoldable pub padded : ℕ → List ℕ → List ℕ
@@ -28,3 +29,7 @@ boardRefused n = record { number = n; points = 0; home = 0; zones = 0; ends = re
 
 unfoldable pub boardOf : List ℕ → Board
 boardOf b = let said = boardSaid b in cond (eqb (refusal b) 0) said (boardRefused (refusal b))
+
+-- the board whose arrays stand apart from the rest
+abbrev pub boardWith : BoardHead → List ℕ → List ℕ → Board
+boardWith h e s = record { number = h .number; points = h .points; home = h .home; zones = h .zones; ends = e; position = s }

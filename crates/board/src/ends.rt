@@ -1,64 +1,60 @@
-// Rows 8 and 9: how many zones each point has, and that all points hang together.
+// Rows 8 and 9: that each point but home has two zones, and that all points hang together.
 use crate::said::byte;
-ghost use Prim.Native.Nat.{_*_};
+ghost use Prim.Native.Nat.{_*_, _^_, _<_};
 ghost use mathlib.Core.Path.{_≡_};
-ghost use Rattle.model.specs.Lists.{any, below};
-ghost use Rattle.model.specs.Reading.{pointsSaid, zonesSaid, thin, apart as Reading·apart};
-ghost use Rattle.board.specs.Tables.{Counted, Inside};
+ghost use lib.ListN.{replicate};
+ghost use lib.Bits.{bitOr, bitAnd};
+ghost use Rattle.model.specs.Reading.{zonesSaid};
+ghost use Rattle.board.specs.Tables.{Whole, Inside, Led, Doubled, endRefusal};
 
-// How many ends lie at each point.
-fn counts(bytes: &[u8]) -> [usize; 256]
-    ensures { λ r. ⌜ Counted (now (bytes .entry)) r (2 * zonesSaid (now (bytes .entry))) ⌝ }
+// `twice` with point p, if it is in `once`.
+fn again(once: u64, twice: u64, p: usize) -> u64
+    requires { ⌜ p < 64 ⌝ }
+    ensures { λ r. ⌜ r ≡ bitOr twice (bitAnd once (2 ^ p)) ⌝ }
 {
-    let words = 2 * byte(bytes, 5);
-    let mut counts = [0usize; 256];
-    let mut w = 0;
-    while w < words {
-        let p = byte(bytes, 4 * (w / 2) + w % 2 + 6);
-        counts[p] += 1;
-        w += 1;
-    }
-    counts
+    twice | (once & (1u64 << p))
 }
 
-// Row 8: a point other than home with under two zones.
-pub fn any_thin(bytes: &[u8]) -> bool
-    ensures { λ r. ⌜ r ≡ any (thin (now (bytes .entry))) (below (pointsSaid (now (bytes .entry)))) ⌝ }
+// Lays the ways of all words; gives the points where two words or more start.
+fn lay_ways(bytes: &[u8], ways: &mut [u64]) -> u64
+    requires { ⌜ (Whole (now bytes) × Inside (now bytes)) × (now ways ≡ replicate 64 0) ⌝ }
+    ensures { λ r. ⌜ Led (now (bytes .entry)) (now (ways .exit)) (2 * zonesSaid (now (bytes .entry))) × Doubled (now (bytes .entry)) r ⌝ }
+{
+    let zones = byte(bytes, 5);
+    let mut once = 0;
+    let mut twice = 0;
+    let mut z = 0;
+    while z < zones {
+        let a = byte(bytes, 4 * z + 6);
+        let b = byte(bytes, 4 * z + 7);
+        twice = again(once, twice, a);
+        once = points::with(once, a);
+        twice = again(once, twice, b);
+        once = points::with(once, b);
+        points::add_way(ways, a, b);
+        points::add_way(ways, b, a);
+        z += 1;
+    }
+    twice
+}
+
+// The number of the first of the two rows that holds, else 0. Over the ways of all words, home reaches another number of points than there
+// are where they don't hang together.
+pub fn refusal(bytes: &[u8]) -> u32
+    requires { ⌜ Whole (now bytes) × Inside (now bytes) ⌝ }
+    ensures { λ r. ⌜ r ≡ endRefusal (now (bytes .entry)) ⌝ }
 {
     let points = byte(bytes, 3);
     let home = byte(bytes, 4);
-    let counts = counts(bytes);
-    let mut p = 0;
-    while p < points {
-        if p == home {
-            p += 1;
-            continue;
-        }
-        if counts[p] < 2 {
-            return true;
-        }
-        p += 1;
-    }
-    false
-}
-
-// Row 9: points that don't hang together. Over the ways of all words, home reaches another number
-// of points than there are.
-pub fn apart(bytes: &[u8]) -> bool
-    requires { ⌜ Inside (now bytes) ⌝ }
-    ensures { λ r. ⌜ r ≡ Reading·apart (now (bytes .entry)) ⌝ }
-{
-    let points = byte(bytes, 3);
-    let home = byte(bytes, 4);
-    let words = 2 * byte(bytes, 5);
     let mut ways = [0u64; 64];
-    let mut w = 0;
-    while w < words {
-        let p = byte(bytes, 4 * (w / 2) + w % 2 + 6);
-        let q = byte(bytes, 4 * (w / 2) + (1 - w % 2) + 6);
-        points::add_way(&mut ways, p, q);
-        w += 1;
+    let twice = lay_ways(bytes, &mut ways);
+    let thin = points::without(points::all(points), points::with(twice, home));
+    if thin != 0 {
+        return 8;
     }
     let reached = points::grow(&ways, home);
-    points::size(reached) != points
+    if points::size(reached) != points {
+        return 9;
+    }
+    0
 }

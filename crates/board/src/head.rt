@@ -1,6 +1,8 @@
 // Rows 1 to 5: what the first six bytes and the number of bytes say.
 use crate::said::byte;
+ghost use Prim.Native.Nat.{_≤_};
 ghost use mathlib.Core.Path.{_≡_};
+ghost use lib.ListN.{length};
 ghost use Rattle.model.specs.Reading.{tooShort, wrongLength, wrongVersion, outOfRange, wrongCount};
 
 // Row 1: under 6 bytes.
@@ -12,6 +14,7 @@ pub fn too_short(bytes: &[u8]) -> bool
 
 // Row 2: L isn't the count of bytes after it.
 pub fn wrong_length(bytes: &[u8]) -> bool
+    requires { ⌜ 6 ≤ length (now bytes) ⌝ }
     ensures { λ r. ⌜ r ≡ wrongLength (now (bytes .entry)) ⌝ }
 {
     256 * byte(bytes, 0) + byte(bytes, 1) + 2 != bytes.len()
@@ -19,6 +22,7 @@ pub fn wrong_length(bytes: &[u8]) -> bool
 
 // Row 3: the version isn't 1.
 pub fn wrong_version(bytes: &[u8]) -> bool
+    requires { ⌜ 6 ≤ length (now bytes) ⌝ }
     ensures { λ r. ⌜ r ≡ wrongVersion (now (bytes .entry)) ⌝ }
 {
     byte(bytes, 2) != 1
@@ -26,6 +30,7 @@ pub fn wrong_version(bytes: &[u8]) -> bool
 
 // Row 4: P, home or Z out of range.
 pub fn out_of_range(bytes: &[u8]) -> bool
+    requires { ⌜ 6 ≤ length (now bytes) ⌝ }
     ensures { λ r. ⌜ r ≡ outOfRange (now (bytes .entry)) ⌝ }
 {
     let points = byte(bytes, 3);
@@ -48,6 +53,7 @@ pub fn out_of_range(bytes: &[u8]) -> bool
 
 // Row 5: L isn't 4 + 4 × Z.
 pub fn wrong_count(bytes: &[u8]) -> bool
+    requires { ⌜ 6 ≤ length (now bytes) ⌝ }
     ensures { λ r. ⌜ r ≡ wrongCount (now (bytes .entry)) ⌝ }
 {
     256 * byte(bytes, 0) + byte(bytes, 1) != 4 + 4 * byte(bytes, 5)

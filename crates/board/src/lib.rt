@@ -7,8 +7,9 @@ mod said;
 mod zones;
 
 ghost use mathlib.Core.Path.{_≡_};
+ghost use lib.ListN.{replicate};
 ghost use Rattle.model.specs.Reading.{refusal};
-ghost use Rattle.board.specs.Given.{boardOf};
+ghost use Rattle.board.specs.Given.{boardOf, boardWith};
 
 // The ends of zone z are ends[2 * z] and ends[2 * z + 1]. A zone's place in position is 0 where it
 // is free, else 2 × carrier + heading. Both arrays hold zeros past the last zone, and on a refusal
@@ -20,6 +21,14 @@ pub struct Board {
     pub zones: usize,
     pub ends: [usize; 192],
     pub position: [u32; 96],
+}
+
+// A board but for its arrays.
+pub struct BoardHead {
+    pub number: u32,
+    pub points: usize,
+    pub home: usize,
+    pub zones: usize,
 }
 
 // The rows in rising order: the first that holds.
@@ -41,45 +50,51 @@ fn refusal_of(bytes: &[u8]) -> u32
     if head::wrong_count(bytes) {
         return 5;
     }
-    if zones::any_bad(bytes) {
-        return 6;
+    let number = zones::refusal(bytes);
+    if number != 0 {
+        return number;
     }
-    if zones::any_repeated(bytes) {
-        return 7;
-    }
-    if ends::any_thin(bytes) {
-        return 8;
-    }
-    if ends::apart(bytes) {
-        return 9;
-    }
-    0
+    ends::refusal(bytes)
 }
 
-pub fn read(bytes: &[u8]) -> Board
-    ensures { λ r. ⌜ r ≡ boardOf (now (bytes .entry)) ⌝ }
+// Reads the board into arrays that the caller lends filled with zeros.
+pub fn read_into(bytes: &[u8], ends: &mut [usize], position: &mut [u32]) -> BoardHead
+    requires { ⌜ (now ends ≡ replicate 192 0) × (now position ≡ replicate 96 0) ⌝ }
+    ensures { λ r. ⌜ boardWith r (now (ends .exit)) (now (position .exit)) ≡ boardOf (now (bytes .entry)) ⌝ }
 {
     let number = refusal_of(bytes);
     if number != 0 {
-        return Board {
+        return BoardHead {
             number: number,
             points: 0,
             home: 0,
             zones: 0,
-            ends: [0; 192],
-            position: [0; 96],
         };
     }
     let points = said::byte(bytes, 3);
     let home = said::byte(bytes, 4);
     let zones = said::byte(bytes, 5);
-    let ends = fill::ends(bytes);
-    let position = fill::position(bytes);
-    Board {
+    fill::arrays(bytes, ends, position);
+    BoardHead {
         number: 0,
         points: points,
         home: home,
         zones: zones,
+    }
+}
+
+// The same, with the arrays.
+pub fn read(bytes: &[u8]) -> Board
+    ensures { λ r. ⌜ r ≡ boardOf (now (bytes .entry)) ⌝ }
+{
+    let mut ends = [0usize; 192];
+    let mut position = [0u32; 96];
+    let head = read_into(bytes, &mut ends, &mut position);
+    Board {
+        number: head.number,
+        points: head.points,
+        home: head.home,
+        zones: head.zones,
         ends: ends,
         position: position,
     }

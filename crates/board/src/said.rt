@@ -1,11 +1,11 @@
-// One byte of the board, as the definition reads it: 0 past the end.
+// One byte of the board.
+ghost use Prim.Native.Nat.{_<_};
+ghost use lib.ListN.{length};
 ghost use Rattle.board.specs.Tables.{ByteAt};
 
 pub fn byte(bytes: &[u8], i: usize) -> usize
+    requires { ⌜ i < length (now bytes) ⌝ }
     ensures { λ r. ⌜ ByteAt (now (bytes .entry)) i r ⌝ }
 {
-    if i < bytes.len() {
-        return bytes[i] as usize;
-    }
-    0
+    bytes[i] as usize
 }

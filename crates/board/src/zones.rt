@@ -1,13 +1,14 @@
 // Rows 6 and 7: what each zone says, and that no carrier stands in two zones.
 use crate::said::byte;
-ghost use Prim.Native.Nat.{_<_};
+ghost use Prim.Native.Nat.{_+_, _*_, _<_};
 ghost use mathlib.Core.Path.{_≡_};
-ghost use Rattle.model.specs.Lists.{any, below};
-ghost use Rattle.model.specs.Reading.{zonesSaid, badZone, repeated};
+ghost use lib.ListN.{length};
+ghost use Rattle.model.specs.Reading.{badZone};
+ghost use Rattle.board.specs.Tables.{Whole, zoneRefusal};
 
 // Row 6, of one zone: an end not below P, equal ends, heading over 1, or free with heading 1.
 fn bad(bytes: &[u8], z: usize) -> bool
-    requires { ⌜ z < 256 ⌝ }
+    requires { ⌜ (z < 256) × (4 * z + 9 < length (now bytes)) ⌝ }
     ensures { λ r. ⌜ r ≡ badZone (now (bytes .entry)) z ⌝ }
 {
     let points = byte(bytes, 3);
@@ -33,39 +34,31 @@ fn bad(bytes: &[u8], z: usize) -> bool
     heading == 1
 }
 
-// Row 6: some zone is bad.
-pub fn any_bad(bytes: &[u8]) -> bool
-    ensures { λ r. ⌜ r ≡ any (badZone (now (bytes .entry))) (below (zonesSaid (now (bytes .entry)))) ⌝ }
-{
-    let zones = byte(bytes, 5);
-    let mut z = 0;
-    while z < zones {
-        if bad(bytes, z) {
-            return true;
-        }
-        z += 1;
-    }
-    false
-}
-
-// Row 7: a carrier in two zones. The table says of each carrier whether it stands in a zone before z.
-pub fn any_repeated(bytes: &[u8]) -> bool
-    ensures { λ r. ⌜ r ≡ any (repeated (now (bytes .entry))) (below (zonesSaid (now (bytes .entry)))) ⌝ }
+// The number of the first of the two rows that holds, else 0. The table says of each carrier whether it stands in a zone before z.
+pub fn refusal(bytes: &[u8]) -> u32
+    requires { ⌜ Whole (now bytes) ⌝ }
+    ensures { λ r. ⌜ r ≡ zoneRefusal (now (bytes .entry)) ⌝ }
 {
     let zones = byte(bytes, 5);
     let mut seen = [false; 256];
+    let mut repeated = false;
     let mut z = 0;
     while z < zones {
+        if bad(bytes, z) {
+            return 6;
+        }
         let carrier = byte(bytes, 4 * z + 8);
+        z += 1;
         if carrier == 0 {
-            z += 1;
             continue;
         }
         if seen[carrier] {
-            return true;
+            repeated = true;
         }
         seen[carrier] = true;
-        z += 1;
     }
-    false
+    if repeated {
+        return 7;
+    }
+    0
 }

@@ -1,7 +1,6 @@
 -- Demand 2 of the key, over the definitions: what `run`, `named` and `verdictOf` give is right on every position laid on a track.
 -- Each field is a theorem of the key's order of retirements.
-use Prim.Native.Nat.{ℕ}
-use mathlib.Core.Path.{_≡_, refl}
+use mathlib.Core.Path.{refl}
 use Rattle.model.specs.Track.{Track}
 use Rattle.model.specs.Position.{Position}
 use Rattle.model.specs.Accepted.{Laid}

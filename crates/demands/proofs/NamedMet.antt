@@ -2,7 +2,7 @@
 -- Tries by the key's order of retirements, single moves on full boards by home's set of the collapse.
 use Prim.Native.Nat.{ℕ}
 use mathlib.Core.List.{List, map}
-use mathlib.Core.Path.{_≡_, sym, subst}
+use mathlib.Core.Path.{sym, subst}
 use Rattle.model.specs.Track.{Track}
 use Rattle.model.specs.Position.{Position}
 use Rattle.model.specs.Accepted.{Laid}

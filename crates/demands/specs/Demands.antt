@@ -1,7 +1,7 @@
 -- Demands 2 and 3 in the words of document 01, of the answers that the operations give on an accepted board.
 -- They speak of routes, orders, tries and moves as relations; no search has to be believed to read them.
 use Prim.Native.Nat.{ℕ, _*_, _≤_, _<_}
-use mathlib.Core.List.{List, [], _∷_, List·Memᴰ}
+use mathlib.Core.List.{List, List·Memᴰ}
 use mathlib.Core.Path.{_≡_}
 use mathlib.Core.Bool.{false}
 use mathlib.Core.Logic.{_⊎_, _↔_}

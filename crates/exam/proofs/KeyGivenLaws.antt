@@ -5,7 +5,7 @@ use mathlib.Core.List.{List, _++_}
 use mathlib.Core.Path.{_≡_, sym, ap, _∙_, subst}
 use native.Mathlib.Omega.{arith}
 use lib.ListN.{length, drop}
-use Rattle.model.specs.Track.{Track}
+use Rattle.model.specs.Track.{Track, trackOf}
 use Rattle.model.specs.Position.{Position, outs}
 use Rattle.rules.specs.Key.{named, verdictOf, keyFor, keyIn}
 use Rattle.order.proofs.Within.{Within}
@@ -13,7 +13,7 @@ use Rattle.order.proofs.Named.{last-within}
 use Rattle.order.proofs.Sizes.{named-most}
 use Rattle.carriers.specs.Numbers.{Listable, Listed}
 use Rattle.search.specs.Sending as sending
-use Rattle.exam.specs.Parsed.{trackOf, Ready, KeyGiven}
+use Rattle.exam.specs.Parsed.{Ready, KeyGiven}
 use Rattle.exam.proofs.KeyLaws.{key-10, key-11, key-for}
 use Rattle.exam.proofs.ReadyLaws.{listable}
 

@@ -31,7 +31,7 @@ key-turned-back b plan list {r} e n =
     }
 
 -- what was written is read back by its length
-read-back : (written lent : List ℕ) {n : ℕ} {l : List ℕ} → n ≡ length written → l ≡ overwritten written lent → take n l ≡ written
+pub read-back : (written lent : List ℕ) {n : ℕ} {l : List ℕ} → n ≡ length written → l ≡ overwritten written lent → take n l ≡ written
 read-back written lent {n} e f = ap (take n) f ∙ take-at written (drop (length written) lent) n (sym e)
 
 -- what is right of an answer is right of what was written as the answer says

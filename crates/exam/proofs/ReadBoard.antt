@@ -5,7 +5,7 @@ use mathlib.Core.List.{List}
 use mathlib.Core.Path.{_≡_, sym, ap, _∙_, subst, subst₂}
 use native.Mathlib.Omega.{arith}
 use lib.ListN.{length, getD, take}
-use Rattle.model.specs.Track.{Track}
+use Rattle.model.specs.Track.{Track, trackOf}
 use Rattle.model.specs.Position.{Position}
 use Rattle.model.specs.Accepted.{Accepted}
 use Rattle.model.specs.Reading.{refusal, trackSaid, positionSaid}
@@ -13,7 +13,7 @@ use Rattle.model.proofs.ReadingLaws.{no-row, in-range, zones-said, accepted}
 use Rattle.board.specs.declared.Board.{Board}
 use Rattle.board.specs.Given.{boardOf}
 use Rattle.board.proofs.GivenLaws.{Said, given-number}
-use Rattle.exam.specs.Parsed.{trackOf, Ready}
+use Rattle.exam.specs.Parsed.{Ready}
 
 -- every number of the list is a byte
 abbrev pub Bytes : List ℕ → Type 0

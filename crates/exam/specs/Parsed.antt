@@ -9,10 +9,6 @@ use Rattle.model.specs.Accepted.{Laid}
 use Rattle.rules.specs.Collapse.{CollapseAnswer}
 use Rattle.rules.specs.Key.{KeyAnswer}
 
--- the track of these numbers and ends
-abbrev pub trackOf : ℕ → ℕ → ℕ → List ℕ → Track
-trackOf points home zones ends = record { points = points; home = home; zones = zones; ends = ends }
-
 -- a position laid on a track of at most 64 points and 96 zones, with two ends for each zone, and carriers 1 to 255
 pub record Ready (t : Track) (p : Position) : Type 0 where
   pub laid : Laid t p

@@ -1,5 +1,6 @@
 // The operations on a board in bytes: the key, the collapse and the marker. They take any bytes and any room whatever, and say what they
 // give in every case.
+mod padded;
 pub mod parsed;
 
 ghost use Rattle.exam.specs.Operations.{KeyPromise, CollapsePromise, MarkPromise};
@@ -10,8 +11,10 @@ use parsed::KeyResult;
 pub fn key(bytes: &[u8], plan: &mut [u16], list: &mut [u8]) -> KeyResult
     ensures { λ r. ⌜ KeyPromise (now (bytes .entry)) (now (plan .entry)) (now (list .entry)) (r .verdict) (r .words) (r .count) (now (plan .exit)) (now (list .exit)) ⌝ }
 {
-    let given = board::read(bytes);
-    let number = given.number;
+    let mut ends = [0usize; 192];
+    let mut position = [0u32; 96];
+    let head = board::read_into(bytes, &mut ends, &mut position);
+    let number = head.number;
     if number != 0 {
         return KeyResult {
             verdict: number,
@@ -19,16 +22,12 @@ pub fn key(bytes: &[u8], plan: &mut [u16], list: &mut [u8]) -> KeyResult
             count: 0,
         };
     }
-    let zones = given.zones;
-    let ends = given.ends;
-    let mut position = given.position;
-    let words = 2 * zones;
-    parsed::key(
-        given.points,
-        given.home,
-        zones,
-        &ends[..words],
-        &mut position[..zones],
+    padded::key(
+        head.points,
+        head.home,
+        head.zones,
+        &ends,
+        &mut position,
         plan,
         list,
     )
@@ -38,24 +37,22 @@ pub fn key(bytes: &[u8], plan: &mut [u16], list: &mut [u8]) -> KeyResult
 pub fn collapse(bytes: &[u8], list: &mut [u8]) -> CollapseResult
     ensures { λ r. ⌜ CollapsePromise (now (bytes .entry)) (now (list .entry)) (r .number) (r .count) (now (list .exit)) ⌝ }
 {
-    let given = board::read(bytes);
-    let number = given.number;
+    let mut ends = [0usize; 192];
+    let mut position = [0u32; 96];
+    let head = board::read_into(bytes, &mut ends, &mut position);
+    let number = head.number;
     if number != 0 {
         return CollapseResult {
             number: number,
             count: 0,
         };
     }
-    let zones = given.zones;
-    let ends = given.ends;
-    let mut position = given.position;
-    let words = 2 * zones;
-    parsed::collapse(
-        given.points,
-        given.home,
-        zones,
-        &ends[..words],
-        &mut position[..zones],
+    padded::collapse(
+        head.points,
+        head.home,
+        head.zones,
+        &ends,
+        &mut position,
         list,
     )
 }
@@ -64,21 +61,19 @@ pub fn collapse(bytes: &[u8], list: &mut [u8]) -> CollapseResult
 pub fn mark(bytes: &[u8], sheet: &[u16]) -> u32
     ensures { λ r. ⌜ MarkPromise (now (bytes .entry)) (now (sheet .entry)) r ⌝ }
 {
-    let given = board::read(bytes);
-    let number = given.number;
+    let mut ends = [0usize; 192];
+    let mut position = [0u32; 96];
+    let head = board::read_into(bytes, &mut ends, &mut position);
+    let number = head.number;
     if number != 0 {
         return number;
     }
-    let zones = given.zones;
-    let ends = given.ends;
-    let mut position = given.position;
-    let words = 2 * zones;
-    parsed::mark(
-        given.points,
-        given.home,
-        zones,
-        &ends[..words],
-        &mut position[..zones],
+    padded::mark(
+        head.points,
+        head.home,
+        head.zones,
+        &ends,
+        &mut position,
         sheet,
     )
 }

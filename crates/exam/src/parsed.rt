@@ -3,10 +3,11 @@ ghost use mathlib.Core.Path.{_≡_};
 ghost use mathlib.Core.List.{List};
 ghost use Prim.Native.Nat.{ℕ, _<_};
 ghost use lib.ListN.{length, drop};
+ghost use Rattle.model.specs.Track.{trackOf};
 ghost use Rattle.rules.specs.Key.{verdictOf, keyIn};
 ghost use Rattle.rules.specs.Collapse.{collapseIn};
 ghost use Rattle.rules.specs.Sheet.{markClaim, markFor};
-ghost use Rattle.exam.specs.Parsed.{trackOf, Ready, KeyGiven, CollapseGiven};
+ghost use Rattle.exam.specs.Parsed.{Ready, KeyGiven, CollapseGiven};
 
 // What the key gives: the verdict, the count of words written to the plan, and of numbers written to the list.
 pub struct KeyResult {

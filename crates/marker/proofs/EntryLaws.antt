@@ -9,16 +9,14 @@ use lib.ListN.{length, getD, take, drop, set, length-drop, drop-of-length-le}
 use lib.Seq.{drop-cons}
 use lib.Dec.{ltb, eqb}
 use borrow.Author.Tests.{lt-ltb, le-ltb, eq-eqb, ne-eqb, not-true, not-false}
-use Rattle.model.specs.Track.{Track, zoneOf, headingOf}
+use Rattle.model.specs.Track.{Track, trackOf, zoneOf, headingOf}
 use Rattle.model.specs.Position.{Position, at, retire}
 use Rattle.model.proofs.BoolLaws.{and-left, or-left, or-right}
-use Rattle.rules.specs.Sheet.{stillOut, follow, byRules, endsHome, markEntry}
-use Rattle.marker.specs.Marked.{trackOf, Ready, standsAt, routeNumber, entryNumber, EntryMarked}
-use Rattle.marker.proofs.FreedLaws.{standing-word, standing-stands, stands-out, freed}
-
--- the rules' four tests of an entry, in their order
-abbrev pub numberOf : Bool → Bool → Bool → Bool → ℕ → ℕ
-numberOf short out rules home rest = cond short 30 (cond (not out) 31 (cond (not rules) 32 (cond (not home) 33 rest)))
+use Rattle.model.proofs.PositionLaws.{retire-set}
+use Rattle.rules.specs.Sheet.{stillOut, follow, byRules, endsHome, numberOf, markEntry}
+use Rattle.rules.proofs.OutTested.{stands-out}
+use Rattle.marker.specs.Marked.{Ready, standsAt, routeNumber, entryNumber, EntryMarked}
+use Rattle.marker.proofs.StandingLaws.{standing-word, standing-stands}
 
 -- the entry at a place of the sheet
 module _ (sheet : List ℕ) (place : ℕ) where
@@ -155,7 +153,7 @@ module _ {home zones : ℕ} {ends : List ℕ} {p : Position} {sheet : List ℕ} 
         let w = standing sheet place in
         record {
           number = λ points. sym z ∙ e points ∙ sym (route-decides (trackOf points home zones ends) p sheet place h (ready .each) (sym g ∙ not-false s m));
-          leaves = freed p c w (ready .once) (standing-stands zones p c w (sym g ∙ not-false s m) (ready .each));
+          leaves = sym (retire-set (ready .once) (standing-stands zones p c w (sym g ∙ not-false s m) (ready .each)));
         }
 
 -- a standing is a word of the track

@@ -2,6 +2,6 @@ pub mod ReadyLaws
 pub mod ScanLaws
 pub mod RouteLaws
 pub mod ClaimLaws
-pub mod FreedLaws
+pub mod StandingLaws
 pub mod EntryLaws
 pub mod PlanLaws

@@ -3,19 +3,19 @@
 use Prim.Native.Nat.{ℕ, zero, suc, _+_, _≤_, _<_}
 use mathlib.Core.List.{List, [], _∷_}
 use mathlib.Core.Path.{_≡_, refl, sym, ap, ap₂, _∙_, subst}
-use mathlib.Core.Bool.{Bool, true, false, cond, _||_, true≢false}
+use mathlib.Core.Bool.{Bool, true, false, cond, _||_}
 use native.Mathlib.Nat.{add-zero}
 use native.Mathlib.Omega.{arith}
 use lib.ListN.{length, getD, take, drop, length-drop, drop-of-length-le}
 use lib.Seq.{getD-drop, drop-drop}
 use lib.Dec.{ltb, eqb}
 use borrow.Author.Tests.{ltb-false, eq-eqb}
-use Rattle.model.specs.Track.{Track}
+use Rattle.model.specs.Track.{Track, trackOf}
 use Rattle.model.specs.Position.{Position, retire}
+use Rattle.model.proofs.BoolLaws.{or-false-right}
 use Rattle.model.proofs.PositionLaws.{length-without, once-retire}
-use Rattle.rules.specs.Sheet.{stillOut, byRules, endsHome, markEnd, markEntry, markEntries}
-use Rattle.marker.specs.Marked.{trackOf, Ready, entryNumber, EntryMarked}
-use Rattle.marker.proofs.EntryLaws.{numberOf}
+use Rattle.rules.specs.Sheet.{stillOut, byRules, endsHome, markEnd, numberOf, markEntry, markEntries}
+use Rattle.marker.specs.Marked.{Ready, entryNumber, EntryMarked}
 
 too-many : {X : Type 0} (n : ℕ) → suc n ≤ 0 → X
 too-many n h = absurd (omega arith)
@@ -56,10 +56,6 @@ fails-words t p [] h n = too-many 0 h
 fails-words t p (c ∷ []) h n = refl
 fails-words t p (c ∷ k ∷ ws) h n = stops (eqb k 0 || ltb (length ws) k) (stillOut p c) (byRules t p c (take k ws)) (endsHome t (take k ws)) (markEntries (suc (length ws)) t (retire c p) (drop k ws)) n
 
-or-second : (a b : Bool) → (a || b) ≡ false → b ≡ false
-or-second true b e = absurd (true≢false e)
-or-second false b e = e
-
 -- what an entry that passes leaves: the words after it, with its carrier taken off
 record Passed (t : Track) (p : Position) (ws : List ℕ) : Type 0 where
   pub within : 2 + getD ws 1 0 ≤ length ws
@@ -72,7 +68,7 @@ passes-words t p (c ∷ []) h e = absurd (let f : 30 ≡ zero = e in omega arith
 passes-words t p (c ∷ k ∷ ws) h e =
     let rest = markEntries (suc (length ws)) t (retire c p) (drop k ws) in
     let x = goes-on (eqb k 0 || ltb (length ws) k) (stillOut p c) (byRules t p c (take k ws)) (endsHome t (take k ws)) rest e in
-    let fits : k ≤ length ws = ltb-false (length ws) k (or-second (eqb k 0) (ltb (length ws) k) (x .0)) in
+    let fits : k ≤ length ws = ltb-false (length ws) k (or-false-right (eqb k 0) (ltb (length ws) k) (x .0)) in
     let past : drop k ws ≡ drop (2 + k) (c ∷ k ∷ ws) = ap (λ (n : ℕ). drop n (c ∷ k ∷ ws)) two-more in
     record {
       within = omega arith;

@@ -10,11 +10,11 @@ use lib.ListN.{length, getD, drop, drop-of-length-le}
 use lib.Seq.{drop-cons}
 use lib.Dec.{ltb, eqb}
 use borrow.Author.Tests.{lt-ltb, le-ltb, eq-eqb, ne-eqb, not-true, not-false}
-use Rattle.model.specs.Track.{Track, zoneOf, rev, leave}
+use Rattle.model.specs.Track.{Track, trackOf, zoneOf, rev, leave}
 use Rattle.model.specs.Position.{Position, at, carrierOf}
 use Rattle.rules.specs.Key.{steps, leavesHome}
 use Rattle.rules.specs.Sheet.{follow, endsHome}
-use Rattle.marker.specs.Marked.{trackOf, stepsBy, routeNumber}
+use Rattle.marker.specs.Marked.{stepsBy, routeNumber}
 
 -- the step rule by the outcomes of its first three tests
 pub steps-tested : (ends : List ℕ) (p : Position) (c w v : ℕ) (a b d : Bool) → eqb (getD ends v 0) (getD ends (rev w) 0) ≡ a → eqb (zoneOf v) (zoneOf w) ≡ b → eqb (at p (zoneOf v)) 0 ≡ d

@@ -6,14 +6,10 @@ use mathlib.Core.Path.{_≡_}
 use mathlib.Core.Bool.{Bool, cond, not, _&&_}
 use lib.ListN.{length, getD, drop}
 use lib.Dec.{ltb, eqb}
-use Rattle.model.specs.Track.{Track, zoneOf, headingOf}
+use Rattle.model.specs.Track.{Track, trackOf, zoneOf, headingOf}
 use Rattle.model.specs.Position.{Position, at, Once, retire}
 use Rattle.rules.specs.Key.{steps}
 use Rattle.rules.specs.Sheet.{follow, endsHome, markEntry}
-
--- the track of these numbers and these ends
-abbrev pub trackOf : ℕ → ℕ → ℕ → List ℕ → Track
-trackOf points home zones ends = record { points = points; home = home; zones = zones; ends = ends }
 
 -- what the marker asks of the track and the position that it is lent: every position laid on a track has it
 pub record Ready (zones : ℕ) (ends : List ℕ) (p : Position) : Type 0 where

@@ -5,8 +5,9 @@ mod route;
 ghost use mathlib.Core.Path.{_≡_};
 ghost use Prim.Native.Nat.{_≤_, _<_};
 ghost use lib.ListN.{length, take, drop};
+ghost use Rattle.model.specs.Track.{trackOf};
 ghost use Rattle.rules.specs.Sheet.{markEntries, sameList};
-ghost use Rattle.marker.specs.Marked.{trackOf, Ready, EntryMarked};
+ghost use Rattle.marker.specs.Marked.{Ready, EntryMarked};
 
 // The entry that starts at `place`: 30 to 33 are tried in that order. Where none is given the carrier is taken off.
 fn mark_entry(

@@ -1,17 +1,9 @@
 // A route on a sheet: its first word against the carrier's standing, and each next word against the moving rules.
 ghost use mathlib.Core.Path.{_≡_};
 ghost use Prim.Native.Nat.{ℕ, _*_, _/_, _<_};
-ghost use lib.ListN.{length, getD};
-ghost use Rattle.model.specs.Track.{rev};
-ghost use Rattle.marker.specs.Marked.{trackOf, Ready, standsAt, stepsBy, routeNumber};
-
-// The point where a word leaves.
-fn leaving(ends: &[usize], w: usize) -> usize
-    requires { ⌜ rev w < length (now ends) ⌝ }
-    ensures { λ r. ⌜ r ≡ getD (now (ends .entry)) (rev w) 0 ⌝ }
-{
-    ends[2 * (w / 2) + (1 - w % 2)]
-}
+ghost use lib.ListN.{length};
+ghost use Rattle.model.specs.Track.{trackOf, rev};
+ghost use Rattle.marker.specs.Marked.{Ready, standsAt, stepsBy, routeNumber};
 
 // Whether the word is the carrier's standing. 0 is no carrier.
 pub fn stands(zones: usize, position: &[u32], carrier: u32, w: usize) -> bool
@@ -32,7 +24,7 @@ fn may_step(ends: &[usize], position: &[u32], carrier: u32, w: usize, v: usize) 
     requires { ⌜ (rev w < length (now ends)) × ((v < length (now ends)) × (v / 2 < length (now position))) ⌝ }
     ensures { λ r. ⌜ r ≡ stepsBy (now (ends .entry)) (now (position .entry)) carrier w v ⌝ }
 {
-    if ends[v] != leaving(ends, w) {
+    if ends[v] != words::leaving(ends, w) {
         return false;
     }
     if v / 2 == w / 2 {
@@ -72,7 +64,7 @@ pub fn mark_route(
         w = v;
         i += 1;
     }
-    if leaving(ends, w) != home {
+    if words::leaving(ends, w) != home {
         return 33;
     }
     0

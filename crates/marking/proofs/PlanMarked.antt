@@ -1,30 +1,27 @@
 -- A sheet's plan is marked 0 exactly where it is an order of all carriers out, with routes by the rules.
 -- Entry by entry: an entry passes 30 to 33 exactly where it retires its carrier, and 34 is not given exactly where none is left.
-use Prim.Native.Nat.{ℕ, zero, suc, _+_, _≤_, _<_, _-_}
-use mathlib.Core.List.{List, [], _∷_, _++_, List·Memᴰ, List·Memᴰ·head, List·Memᴰ·tail, List·Memᴰ·not-nil}
-use mathlib.Core.Path.{_≡_, refl, sym, ap, _∙_, subst}
-use mathlib.Core.Bool.{Bool, true, false, cond, not, _&&_, _||_}
+use Prim.Native.Nat.{ℕ, zero, suc, _+_, _≤_}
+use mathlib.Core.List.{List, [], _∷_, _++_, List·Memᴰ, List·Memᴰ·head, List·Memᴰ·not-nil}
+use mathlib.Core.Path.{_≡_, refl, ap, _∙_}
+use mathlib.Core.Bool.{Bool, true, false, cond, not, _||_}
 use native.Mathlib.Omega.{arith}
-use lib.ListN.{length, take, drop, getD, length-append, length-drop, length-take, take-append-drop}
+use lib.ListN.{length, take, drop, length-append, length-drop, take-append-drop}
 use lib.Seq.{take-append-seam, drop-append-seam, length-take-le}
 use lib.Dec.{ltb, eqb}
-use borrow.Author.Tests.{ltb-true, ltb-false, le-ltb, eqb-true, eqb-false, eq-eqb, ne-eqb, not-true, not-false}
-use Rattle.model.proofs.BoolLaws.{and-left, and-right, or-left, or-right, both-ways}
-use Rattle.model.proofs.ListLaws.{true-any}
-use Rattle.model.proofs.PositionLaws.{mem-outs, outs-mem, laid-retire, stands-carrier}
+use borrow.Author.Tests.{ltb-false, le-ltb, eqb-false, ne-eqb, not-true}
+use Rattle.model.proofs.BoolLaws.{and-left, or-false-right, both-ways}
+use Rattle.model.proofs.PositionLaws.{mem-outs, outs-mem, laid-retire}
 use Rattle.model.specs.Lists.{any}
-use Rattle.model.specs.Track.{Track, zoneOf}
-use Rattle.model.specs.Position.{Position, at, carrierOf, Stands, Out, retire, outs}
+use Rattle.model.specs.Track.{Track}
+use Rattle.model.specs.Position.{Position, carrierOf, retire, outs}
 use Rattle.model.specs.Accepted.{Laid}
 use Rattle.rules.specs.Routes.{Route, route, Entry, Retires, done, next, Empty}
 use Rattle.rules.specs.Key.{planWords}
-use Rattle.rules.specs.Sheet.{stillOut, byRules, endsHome, markEnd, markEntry, markEntries}
-use Rattle.marking.proofs.RouteMarked.{and-both, route-of-tests, rules-of-route, home-of-route}
+use Rattle.rules.specs.Sheet.{stillOut, byRules, endsHome, markEnd, numberOf, markEntry, markEntries}
+use Rattle.rules.proofs.OutTested.{stands-out}
+use Rattle.marking.proofs.RouteMarked.{route-of-tests, rules-of-route, home-of-route}
 
--- the marker's four tests of an entry, in their order
-numberOf : Bool → Bool → Bool → Bool → ℕ → ℕ
-numberOf short out rules home rest = cond short 30 (cond (not out) 31 (cond (not rules) 32 (cond (not home) 33 rest)))
-
+-- all four tests passed, and the rest marked 0
 pub record Passed (short out rules home : Bool) (rest : ℕ) : Type 0 where
   pub whole : short ≡ false
   pub isOut : out ≡ true
@@ -36,7 +33,6 @@ pub not-zero : {X : Type 0} (n : ℕ) → suc n ≡ 0 → X
 not-zero n h = absurd (omega arith)
 
 passed : (short out rules home : Bool) (rest : ℕ) → numberOf short out rules home rest ≡ 0 → Passed short out rules home rest
-unfolding numberOf
 passed true out rules home rest h = not-zero 29 h
 passed false false rules home rest h = not-zero 30 h
 passed false true false home rest h = not-zero 31 h
@@ -44,16 +40,11 @@ passed false true true false rest h = not-zero 32 h
 passed false true true true rest h = record { whole = refl; isOut = refl; byRule = refl; atHome = refl; after = h }
 
 zero-of-passed : (short out rules home : Bool) (rest : ℕ) → Passed short out rules home rest → numberOf short out rules home rest ≡ 0
-unfolding numberOf
 zero-of-passed true out rules home rest x = both-ways {t = true} refl (x .whole)
 zero-of-passed false false rules home rest x = both-ways {t = false} (x .isOut) refl
 zero-of-passed false true false home rest x = both-ways {t = false} (x .byRule) refl
 zero-of-passed false true true false rest x = both-ways {t = false} (x .atHome) refl
 zero-of-passed false true true true rest x = x .after
-
-or-false : (a b : Bool) → (a || b) ≡ false → (a ≡ false) × (b ≡ false)
-or-false true b h = both-ways {t = true} refl h
-or-false false b h = (refl, h)
 
 false-or : (a b : Bool) → a ≡ false → b ≡ false → (a || b) ≡ false
 false-or true b p q = both-ways {t = true} refl p
@@ -79,20 +70,8 @@ numbered-of-out : (p : Position) (c : ℕ) → stillOut p c ≡ true → c ≡ 0
 unfolding stillOut
 numbered-of-out p c h = eqb-false c 0 (not-true (eqb c 0) (and-left (not (eqb c 0)) (any (λ v. eqb (carrierOf v) c) p) h))
 
--- what stands at a place of a list is in it
-mem-getD : (l : List ℕ) (i : ℕ) → i < length l → List·Memᴰ (getD l i 0) l
-mem-getD [] i h = absurd (let f : i < 0 = h in omega arith)
-mem-getD (a ∷ l) zero h = List·Memᴰ·head refl
-mem-getD (a ∷ l) (suc i) h = List·Memᴰ·tail (mem-getD l i (omega arith))
-
-out-of-stands : (p : Position) (c w : ℕ) → Stands p c w → stillOut p c ≡ true
-unfolding stillOut
-out-of-stands p c w s =
-    and-both (not (eqb c 0)) (any (λ v. eqb (carrierOf v) c) p) (ap not (ne-eqb c 0 (s .numbered)))
-    (true-any (λ v. eqb (carrierOf v) c) (mem-getD p (zoneOf w) (s .inside)) (eq-eqb (carrierOf (at p (zoneOf w))) c (stands-carrier s)))
-
 out-of-route : (t : Track) (p : Position) (c : ℕ) {r : List ℕ} → Route t p c r → stillOut p c ≡ true
-out-of-route t p c (route {w = w} s o) = out-of-stands p c w s
+out-of-route t p c (route s o) = stands-out s
 
 -- an order of all carriers out, written as these words
 pub record Given (t : Track) (p : Position) (ws : List ℕ) : Type 0 where
@@ -118,14 +97,14 @@ given-entry t p c k ws fits r g =
     }
 
 pub order-of-zero : (t : Track) (n : ℕ) (p : Position) (ws : List ℕ) → length ws ≤ n → Laid t p → markEntries n t p ws ≡ 0 → Given t p ws
-unfolding markEntries markEntry numberOf
+unfolding markEntries markEntry
 order-of-zero t zero p [] fits laid h = given-end t p h
 order-of-zero t zero p (c ∷ ws) fits laid h = absurd (let f : suc (length ws) ≤ 0 = fits in omega arith)
 order-of-zero t (suc n) p [] fits laid h = given-end t p h
 order-of-zero t (suc n) p (c ∷ []) fits laid h = absurd (let f : 30 ≡ 0 = h in omega arith)
 order-of-zero t (suc n) p (c ∷ k ∷ ws) fits laid h =
     let x = passed (eqb k 0 || ltb (length ws) k) (stillOut p c) (byRules t p c (take k ws)) (endsHome t (take k ws)) (markEntries n t (retire c p) (drop k ws)) h in
-    let short : ltb (length ws) k ≡ false = or-false (eqb k 0) (ltb (length ws) k) (x .whole) .1 in
+    let short : ltb (length ws) k ≡ false = or-false-right (eqb k 0) (ltb (length ws) k) (x .whole) in
     let room : k ≤ length ws = ltb-false (length ws) k short in
     let fewer : length (drop k ws) ≤ n = simp length-drop (omega arith) in
     given-entry t p c k ws room
@@ -137,7 +116,7 @@ some-words : {t : Track} {p : Position} {c : ℕ} {r : List ℕ} → Route t p c
 some-words (route {vs = vs} s o) h = not-zero (length vs) h
 
 pub zero-of-order : (t : Track) (n : ℕ) {p q : Position} {es : List Entry} → length (planWords es) ≤ n → Laid t p → Retires t p es q → Empty q → markEntries n t p (planWords es) ≡ 0
-unfolding markEntries markEntry planWords numberOf
+unfolding markEntries markEntry planWords
 zero-of-order t zero {p} fits laid done none = end-of-empty p none
 zero-of-order t (suc n) {p} fits laid done none = end-of-empty p none
 zero-of-order t zero fits laid (next {e = e} {es = es} r rs) none = absurd (let f : suc (suc (length (e .words ++ planWords es))) ≤ 0 = fits in omega arith)

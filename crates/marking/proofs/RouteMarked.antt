@@ -1,23 +1,20 @@
 -- A route of a sheet passes the marker's tests 31 to 33 exactly where it is a route by the rules.
 -- Word by word: the tested step is the stated step, and the last word's test is arrival.
-use Prim.Native.Nat.{ℕ, _+_, _*_, _/_, _%_, _<_}
+use Prim.Native.Nat.{ℕ, _+_, _*_, _<_}
 use mathlib.Core.List.{List, [], _∷_}
-use mathlib.Core.Path.{_≡_, refl, ap₂, sym, _∙_}
-use mathlib.Core.Bool.{Bool, true, false, _&&_, false≢true}
+use mathlib.Core.Path.{_≡_, refl}
+use mathlib.Core.Bool.{true, _&&_, false≢true}
 use native.Mathlib.Omega.{arith}
 use lib.ListN.{length}
 use lib.Dec.{ltb, eqb}
 use borrow.Author.Tests.{ltb-true, lt-ltb, eqb-true, eq-eqb}
-use Rattle.model.proofs.BoolLaws.{and-left, and-right, both-ways}
+use Rattle.model.proofs.BoolLaws.{and-left, and-right, and-both}
 use Rattle.model.specs.Track.{Track, zoneOf, headingOf, leave}
-use Rattle.model.specs.Position.{Position, at, Stands}
-use Rattle.rules.specs.Routes.{Step, Onward, arrives, goes, Route, route}
-use Rattle.rules.specs.Key.{steps, leavesHome}
+use Rattle.model.specs.Position.{Position, at}
+use Rattle.rules.specs.Routes.{Onward, arrives, goes, Route, route}
+use Rattle.rules.specs.Key.{steps}
 use Rattle.rules.specs.Sheet.{follow, byRules, endsHome}
 use Rattle.rules.proofs.StepTested.{step-of-test, test-of-step}
-
-pub and-both : (a b : Bool) → a ≡ true → b ≡ true → (a && b) ≡ true
-and-both a b p q = ap₂ (λ (x y : Bool). x && y) p q
 
 module _ (t : Track) (p : Position) (c : ℕ) where
   pub onward-of-tests : (w : ℕ) (vs : List ℕ) → follow t p c w vs ≡ true → endsHome t (w ∷ vs) ≡ true → Onward t p c w vs

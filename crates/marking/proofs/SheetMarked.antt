@@ -1,16 +1,16 @@
 -- Demand 2 of the marker: a sheet is marked 0 exactly where it is right; and the key's own answer as a sheet is right.
 -- A plan by PlanMarked; a claim because the named carriers are the blocked ones, and ascending lists with the same members are equal.
-use Prim.Native.Nat.{ℕ, zero, suc, _≤_}
+use Prim.Native.Nat.{ℕ, zero, suc}
 use mathlib.Core.List.{List, [], _∷_, List·Memᴰ, List·Memᴰ·not-nil}
 use mathlib.Core.Path.{_≡_, refl, sym, ap, ap₂, _∙_, subst}
-use mathlib.Core.Bool.{Bool, true, false, cond, _&&_, false≢true}
-use mathlib.Core.Logic.{_⊎_, inl, inr, _↔_, ⊎-elim}
+use mathlib.Core.Bool.{Bool, true, false, cond, false≢true}
+use mathlib.Core.Logic.{inl, inr, _↔_}
 use native.Mathlib.Omega.{arith}
 use native.Mathlib.Nat.{le-refl}
 use lib.ListN.{length}
 use lib.Dec.{eqb}
 use borrow.Author.Tests.{eqb-true, eq-eqb, ne-eqb}
-use Rattle.model.proofs.BoolLaws.{and-left, and-right}
+use Rattle.model.proofs.BoolLaws.{and-left, and-right, and-both}
 use Rattle.model.proofs.AscendingLaws.{ascending-unique}
 use Rattle.model.specs.Lists.{Ascending}
 use Rattle.model.specs.Track.{Track}
@@ -18,12 +18,11 @@ use Rattle.model.specs.Position.{Position}
 use Rattle.model.specs.Accepted.{Laid}
 use Rattle.rules.specs.Routes.{Blocked, Empty}
 use Rattle.rules.specs.Key.{planWords, named, run, verdictOf}
-use Rattle.rules.specs.Sheet.{OrderGiven, BlockedNamed, Right, sameList, markClaim, markEntries, markFor}
+use Rattle.rules.specs.Sheet.{BlockedNamed, Right, sameList, markClaim, markEntries, markFor}
 use Rattle.order.proofs.Named.{named-iff-blocked, named-ascending, named-left, unnamed-iff-ordered}
 use Rattle.order.proofs.KeyRun.{run-retires}
 use Rattle.order.proofs.Verdicts.{verdict-ordered}
-use Rattle.marking.proofs.RouteMarked.{and-both}
-use Rattle.marking.proofs.PlanMarked.{Given, not-zero, order-of-zero, zero-of-order}
+use Rattle.marking.proofs.PlanMarked.{not-zero, order-of-zero, zero-of-order}
 
 same-of-test : (l m : List ℕ) → sameList l m ≡ true → l ≡ m
 unfolding sameList

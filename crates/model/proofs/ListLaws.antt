@@ -8,7 +8,7 @@ use mathlib.Core.Bool.{Bool, true, false, not, true≢false, false≢true, _&&_,
 use mathlib.Core.Option.{Option, none, some}
 use native.Mathlib.Nat.{eq-or-lt-of-le}
 use native.Mathlib.Omega.{arith}
-use lib.ListN.{length, getD, length-append}
+use lib.ListN.{length, getD, replicate, length-append}
 use Rattle.model.specs.Lists.{countUp, below, consIf, keep, any, all, orElse, first, count, foldLeft, times}
 use Rattle.model.proofs.BoolLaws.{and-left, and-right, both-ways, not-true-false, or-left, or-right}
 
@@ -275,6 +275,21 @@ module _ {A B : Type 0} where
   pub foldLeft-keeps : (P : B → Type 0) (f : B → A → B) (l : List A) → ((b : B) (a : A) → List·Memᴰ a l → P b → P (f b a)) → (b : B) → P b → P (foldLeft f b l)
   foldLeft-keeps P f [] h b p = p
   foldLeft-keeps P f (a ∷ l) h b p = foldLeft-keeps P f l (λ c x m. h c x (List·Memᴰ·tail m)) (f b a) (h b a (List·Memᴰ·head refl) p)
+
+-- a test over two lists, one after the other
+pub any-append : (f : ℕ → Bool) (l m : List ℕ) → any f (l ++ m) ≡ (any f l || any f m)
+any-append f [] m = refl
+any-append f (a ∷ l) m = ap (λ (t : Bool). f a || t) (any-append f l m) ∙ or-assoc (f a) (any f l) (any f m)
+  where
+    or-assoc : (r s t : Bool) → (r || (s || t)) ≡ ((r || s) || t)
+    or-assoc true s t = refl
+    or-assoc false s t = refl
+
+-- in zeros, and past their end, is 0
+pub getD-zeros : (n i : ℕ) → _≡_ {A = ℕ} (getD (replicate n 0) i 0) 0
+getD-zeros zero i = refl
+getD-zeros (suc n) zero = refl
+getD-zeros (suc n) (suc i) = getD-zeros n i
 
 -- tests over the numbers below n
 

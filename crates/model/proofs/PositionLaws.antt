@@ -7,9 +7,10 @@ use mathlib.Core.List.{List, [], _∷_, map, List·Memᴰ, Memᴰ·cast, Memᴰ�
 use mathlib.Core.Bool.{Bool, true, false, not, cond, _||_}
 use native.Mathlib.Nat.{suc-inj}
 use native.Mathlib.Omega.{arith}
-use lib.ListN.{length, getD, length-map, List·getD-map}
+use lib.ListN.{length, getD, set, length-map, length-set, List·getD-map}
+use lib.Seq.{ext-getD, getD-set-same, getD-set-other}
 use lib.Dec.{eqb}
-use borrow.Author.Tests.{eqb-true, eqb-false, ne-eqb, not-true}
+use borrow.Author.Tests.{eqb-true, eqb-false, eq-eqb, ne-eqb, not-true}
 use Rattle.model.specs.Lists.{consIf, keep, any, Ascending}
 use Rattle.model.specs.Track.{Track, zoneOf, headingOf}
 use Rattle.model.specs.Position.{Position, at, carrierOf, isFree, Stands, Out, Once, without, retire, outs}
@@ -204,6 +205,23 @@ once-apart p o i j h k n e = omega (arith, same, heading-small (at p i), heading
 
     same : 2 * i + headingOf (at p i) ≡ 2 * j + headingOf (at p j)
     same = o (carrierOf (at p i)) (2 * i + headingOf (at p i)) (2 * j + headingOf (at p j)) (held-stands p i h n) other
+
+-- to take a carrier off is to free its zone: it stands in no other
+pub retire-set : {p : Position} {c w : ℕ} → Once p → Stands p c w → retire c p ≡ set p (zoneOf w) 0
+retire-set {p} {c} {w} once s =
+    ext-getD 0 (retire c p) (set p (zoneOf w) 0) (length-without (eqb c) p ∙ sym (length-set p (zoneOf w) 0)) (λ z h. go z (rw length-without at h) (eqb z (zoneOf w)) refl)
+  where
+    here : carrierOf (at p (zoneOf w)) ≡ c
+    here = stands-carrier s
+
+    go : (z : ℕ) → z < length p → (t : Bool) → eqb z (zoneOf w) ≡ t → at (retire c p) z ≡ at (set p (zoneOf w) 0) z
+    go z h true e =
+        subst (λ (y : ℕ). at (retire c p) y ≡ at (set p (zoneOf w) 0) y) (sym (eqb-true z (zoneOf w) e))
+        (at-without-gone (eqb c) p (zoneOf w) (eq-eqb c (carrierOf (at p (zoneOf w))) (sym here)) ∙ sym (getD-set-same p (zoneOf w) 0 0 (s .inside)))
+    go z h false e =
+        let n : z ≡ zoneOf w → ⊥ = eqb-false z (zoneOf w) e in
+        let other : c ≡ carrierOf (at p z) → ⊥ = λ q. n (sym (once-apart p once (zoneOf w) z (s .inside) h (λ k. s .numbered (sym here ∙ k)) (here ∙ q))) in
+        at-without-kept (eqb c) p z (ne-eqb c (carrierOf (at p z)) other) ∙ sym (getD-set-other p (zoneOf w) z 0 0 n)
 
 apart-no-repeats : (p : Position) → Apart p → NoRepeats (keep (λ c. not (eqb c 0)) (map carrierOf p))
 apart-no-repeats [] a = tt

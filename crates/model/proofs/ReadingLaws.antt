@@ -15,7 +15,7 @@ use Rattle.model.specs.Position.{at, Stands, Once}
 use Rattle.model.specs.Labels.{label, parts}
 use Rattle.model.specs.Reading.{byte, pointsSaid, homeSaid, zonesSaid, endA, endB, carrierIn, headingIn, trackSaid, positionSaid, tooShort, wrongLength, wrongVersion, outOfRange, wrongCount, badZone, repeated, thin, apart, refusal}
 use Rattle.model.specs.Accepted.{Laid, Accepted, HangsTogether}
-use Rattle.model.proofs.BoolLaws.{both-ways, decided, and-left, and-right}
+use Rattle.model.proofs.BoolLaws.{both-ways, decided, and-left, and-right, and-both, or-false-left, or-false-right}
 use Rattle.model.proofs.ListLaws.{length-below, any-below-false, below-any, all-below, all-below-false}
 use Rattle.model.proofs.PlaceLaws.{getD-map-below}
 use Rattle.model.proofs.WordLaws.{zone-below, rev-below}
@@ -139,18 +139,6 @@ pub record GoodZone (b : List ℕ) (z : ℕ) : Type 0 where
   pub heading : headingIn b z ≤ 1
   pub plain : carrierIn b z ≡ 0 → headingIn b z ≡ 1 → ⊥
 
-or-false-left : (s t : Bool) → (s || t) ≡ false → s ≡ false
-or-false-left true t e = e
-or-false-left false t e = refl
-
-or-false-right : (s t : Bool) → (s || t) ≡ false → t ≡ false
-or-false-right true t e = absurd (true≢false e)
-or-false-right false t e = e
-
-and-true : (s t : Bool) → s ≡ true → t ≡ true → (s && t) ≡ true
-and-true true t e f = f
-and-true false t e f = e
-
 module _ (b : List ℕ) (n : NoRow b) where
   pub in-range : InRange b
   unfolding outOfRange
@@ -190,7 +178,7 @@ module _ (b : List ℕ) (n : NoRow b) where
     b-in = ltb-true (endB b z) (pointsSaid b) (not-false (ltb (endB b z) (pointsSaid b)) (or-false-left (not (ltb (endB b z) (pointsSaid b))) r2 f2));
     differ = eqb-false (endA b z) (endB b z) (or-false-left (eqb (endA b z) (endB b z)) r3 f3);
     heading = leb-true (headingIn b z) 1 (not-false (leb (headingIn b z) 1) (or-false-left (not (leb (headingIn b z) 1)) r4 f4));
-    plain = λ c g. both-ways (and-true (eqb (carrierIn b z) 0) (eqb (headingIn b z) 1) (eq-eqb (carrierIn b z) 0 c) (eq-eqb (headingIn b z) 1 g)) (or-false-right (not (leb (headingIn b z) 1)) r4 f4);
+    plain = λ c g. both-ways (and-both (eqb (carrierIn b z) 0) (eqb (headingIn b z) 1) (eq-eqb (carrierIn b z) 0 c) (eq-eqb (headingIn b z) 1 g)) (or-false-right (not (leb (headingIn b z) 1)) r4 f4);
   }
     where
       r4 : Bool
@@ -229,7 +217,7 @@ module _ (b : List ℕ) (n : NoRow b) where
       earlier = below-any same z y h (eq-eqb (carrierIn b y) (carrierIn b z) e)
 
       twice : (not (eqb (carrierIn b z) 0) && any same (below z)) ≡ true
-      twice = and-true (not (eqb (carrierIn b z) 0)) (any same (below z)) (ap not (ne-eqb (carrierIn b z) 0 m)) earlier
+      twice = and-both (not (eqb (carrierIn b z) 0)) (any same (below z)) (ap not (ne-eqb (carrierIn b z) 0 m)) earlier
 
   -- row 8
   pub not-thin : (p : ℕ) → p < pointsSaid b → (p ≡ homeSaid b → ⊥) → 2 ≤ count (eqb p) (trackSaid b .ends)
@@ -237,7 +225,7 @@ module _ (b : List ℕ) (n : NoRow b) where
   not-thin p h m = go (decided (ltb (count (eqb p) (trackSaid b .ends)) 2))
     where
       go : (ltb (count (eqb p) (trackSaid b .ends)) 2 ≡ true) ⊎ (ltb (count (eqb p) (trackSaid b .ends)) 2 ≡ false) → 2 ≤ count (eqb p) (trackSaid b .ends)
-      go (inl e) = both-ways (and-true (not (eqb p (homeSaid b))) (ltb (count (eqb p) (trackSaid b .ends)) 2) (ap not (ne-eqb p (homeSaid b) m)) e) (any-below-false (thin b) (pointsSaid b) (n .thins) p h)
+      go (inl e) = both-ways (and-both (not (eqb p (homeSaid b))) (ltb (count (eqb p) (trackSaid b .ends)) 2) (ap not (ne-eqb p (homeSaid b) m)) e) (any-below-false (thin b) (pointsSaid b) (n .thins) p h)
       go (inr e) = ltb-false (count (eqb p) (trackSaid b .ends)) 2 e
 
 -- what the bytes say of the track and the position

@@ -11,6 +11,10 @@ pub record Track : Type 0 where
   pub zones : ℕ
   pub ends : List ℕ
 
+-- the track that the code's numbers and its list of ends are
+abbrev pub trackOf : ℕ → ℕ → ℕ → List ℕ → Track
+trackOf points home zones ends = record { points = points; home = home; zones = zones; ends = ends }
+
 -- a word is 2 × zone + heading: its zone
 abbrev pub zoneOf : ℕ → ℕ
 zoneOf w = w / 2

@@ -1,7 +1,7 @@
 -- A free part: what is grown from a point over free zones is the set of the points with its label, and its size and its zones say
 -- whether it holds a loop. The ways over free zones reach what is linked over them.
 use Prim.Native.Nat.{ℕ, _*_, _<_}
-use mathlib.Core.Path.{_≡_, refl, sym, ap, ap₂, _∙_, subst}
+use mathlib.Core.Path.{_≡_, sym, ap, ap₂, _∙_, subst}
 use mathlib.Core.List.{List}
 use mathlib.Core.Bool.{Bool, true, false, _&&_}
 use native.Mathlib.Omega.{arith}
@@ -9,11 +9,11 @@ use borrow.Author.Tests.{eqb-true, eq-eqb}
 use lib.ListN.{getD}
 use lib.Dec.{eqb, leb}
 use Rattle.model.specs.Lists.{below, count}
-use Rattle.model.specs.Track.{Track, Linked, start}
+use Rattle.model.specs.Track.{Track, trackOf, Linked, start}
 use Rattle.model.specs.Track.Linked.{here, over}
 use Rattle.model.specs.Position.{Position, isFree}
 use Rattle.model.specs.Labels.{label}
-use Rattle.model.proofs.BoolLaws.{not-true-false}
+use Rattle.model.proofs.BoolLaws.{not-true-false, same-test}
 use Rattle.model.proofs.CountLaws.{count-below-ext}
 use Rattle.model.proofs.LinkLaws.{linked-trans, linked-word, linked-below}
 use Rattle.model.proofs.LabelLaws.{parts-linked, linked-parts}
@@ -22,14 +22,8 @@ use Rattle.points.specs.Sets.{hasBit, Reach, Grown}
 use Rattle.points.specs.Sets.Reach.{here as there, on}
 use Rattle.points.proofs.SizeLaws.{count-within}
 use Rattle.points.proofs.WayLaws.{reach-on}
-use Rattle.parts.specs.Home.{trackOf}
 use Rattle.parts.specs.Ways.{Sized, goesOn, Over}
 use Rattle.parts.proofs.OneWord.{goes-free}
-
-agree : (a b : Bool) → (a ≡ true → b ≡ true) → (b ≡ true → a ≡ true) → a ≡ b
-agree true b f g = sym (f refl)
-agree false true f g = g refl
-agree false false f g = refl
 
 module _ {points zones : ℕ} {ends : List ℕ} {p : Position} (sized : Sized points zones ends p) {ways : List ℕ} (o : Over ends (goesOn ends p false 0) (2 * zones) ways) (home : ℕ) where
   abbrev t : Track
@@ -58,7 +52,7 @@ module _ {points zones : ℕ} {ends : List ℕ} {p : Position} (sized : Sized po
     part-label : (r : ℕ) → r < points → hasBit part r ≡ eqb (label ls r) (label ls q)
     unfolding freeParts
     part-label r k =
-        agree (hasBit part r) (eqb (label ls r) (label ls q))
+        same-test (hasBit part r) (eqb (label ls r) (label ls q))
         (λ e. eq-eqb (label ls r) (label ls q) (sym (linked-parts t (sized .inside) (isFree p) q r h (reach-linked (g .sound r e)))))
         (λ e. g .whole r (linked-reach (parts-linked t (sized .inside) (isFree p) q r h k (sym (eqb-true (label ls r) (label ls q) e)))))
 

@@ -13,15 +13,15 @@ use lib.Bits.{bitOr, or-lt}
 use lib.Count.{ones}
 use lib.Pow.{pow-pos, pow-mono, ones-lt}
 use Rattle.model.specs.Lists.{below, count}
+use Rattle.model.specs.Track.{trackOf}
 use Rattle.model.specs.Position.{Position, isFree}
 use Rattle.model.specs.Labels.{label}
 use Rattle.model.proofs.ListLaws.{count-less, below-mem}
 use Rattle.rules.specs.Collapse.{freeParts, loopIn}
 use Rattle.points.specs.Sets.{hasBit, less, Lowest, Grown}
 use Rattle.points.specs.Sets.Reach.{here as there}
-use Rattle.points.proofs.BitLaws.{bit-none, bit-or, bit-less, bit-complement, less-word, less-in, less-gone, point-below}
+use Rattle.points.proofs.BitLaws.{bit-none, bit-or, bit-less, bit-all, less-word, less-in, less-gone, point-below}
 use Rattle.points.proofs.SizeLaws.{size-count}
-use Rattle.parts.specs.Home.{trackOf}
 use Rattle.parts.specs.Ways.{Sized, goesOn, Over, Looped}
 use Rattle.parts.proofs.FreeParts.{part-alike, part-loop}
 
@@ -55,13 +55,8 @@ module _ {points zones : ℕ} {ends : List ℕ} {p : Position} (sized : Sized po
     exact = λ home q h.
         let t = trackOf points home zones ends in
         let ls = freeParts t p in
-        bit-none q ∙ sym (ap (λ (b : Bool). loopIn t p ls (label ls q) && not b) (every q h) ∙ and-false (loopIn t p ls (label ls q)));
+        bit-none q ∙ sym (ap (λ (b : Bool). loopIn t p ls (label ls q) && not b) (bit-all points q h) ∙ and-false (loopIn t p ls (label ls q)));
   }
-    where
-      every : (q : ℕ) → q < points → hasBit (2 ^ points - 1) q ≡ true
-      every q h =
-          let whole : 2 ^ points - 1 - 0 ≡ 2 ^ points - 1 = omega arith in
-          ap (λ (x : ℕ). hasBit x q) (sym whole) ∙ bit-complement points 0 q (pow-pos points) h ∙ ap not (bit-none q)
 
   -- none is left
   pub looping-all : {looped : ℕ} → Looping points zones ends p looped 0 → Looped points zones ends p looped

@@ -40,14 +40,14 @@ module _ (ends : List ℕ) (s : ℕ) (p : Position) where
 
   module _ {z : ℕ} {q : Position} (g : Taking ends s p z q) where
     -- where the carrier leaves is read off the position as it is
-    leaves : (b : ℕ) → b ≡ rev (2 * z + headingOf (at q z)) → getD ends b 0 ≡ leavesAt ends p z
-    leaves b e = ap (λ (x : ℕ). getD ends x 0) (e ∙ ap (λ (v : ℕ). rev (2 * z + headingOf v)) (g .kept z (omega arith)))
+    leaves : {b : ℕ} → b ≡ leavesAt ends q z → b ≡ leavesAt ends p z
+    leaves e = e ∙ ap (λ (v : ℕ). getD ends (rev (2 * z + headingOf v)) 0) (g .kept z (omega arith))
 
     last : (x : ℕ) → x < z + 1 → (x ≡ z) ⊎ (x < z)
     last x h = let l : x ≤ z = omega arith in eq-or-lt-of-le l
 
-    module _ (b : ℕ) (e : b ≡ rev (2 * z + headingOf (at q z))) where
-      pub taking-off : z < length q → hasBit s (getD ends b 0) ≡ true → Taking ends s p (z + 1) (set q z 0)
+    module _ {b : ℕ} (e : b ≡ leavesAt ends q z) where
+      pub taking-off : z < length q → hasBit s b ≡ true → Taking ends s p (z + 1) (set q z 0)
       taking-off l h = record {
         as-long = length-set q z 0 ∙ g .as-long;
         done = λ x k. by x (last x k);
@@ -57,16 +57,16 @@ module _ (ends : List ℕ) (s : ℕ) (p : Position) where
           by : (x : ℕ) → (x ≡ z) ⊎ (x < z) → at (set q z 0) x ≡ leftAt ends s p x
           by x (inl d) =
               subst (λ (y : ℕ). at (set q z 0) y ≡ leftAt ends s p y) (sym d)
-              (getD-set-same q z 0 0 l ∙ ap (λ (t : Bool). cond t 0 (at p z)) (sym (ap (hasBit s) (sym (leaves b e)) ∙ h)))
+              (getD-set-same q z 0 0 l ∙ ap (λ (t : Bool). cond t 0 (at p z)) (sym (ap (hasBit s) (sym (leaves e)) ∙ h)))
           by x (inr k) = getD-set-other q z x 0 0 (λ d. omega arith) ∙ g .done x k
 
-      pub taking-not : hasBit s (getD ends b 0) ≡ false → Taking ends s p (z + 1) q
+      pub taking-not : hasBit s b ≡ false → Taking ends s p (z + 1) q
       taking-not h = record { as-long = g .as-long; done = λ x k. by x (last x k); kept = λ x k. g .kept x (omega arith) }
         where
           by : (x : ℕ) → (x ≡ z) ⊎ (x < z) → at q x ≡ leftAt ends s p x
           by x (inl d) =
               subst (λ (y : ℕ). at q y ≡ leftAt ends s p y) (sym d)
-              (g .kept z (omega arith) ∙ ap (λ (t : Bool). cond t 0 (at p z)) (sym (ap (hasBit s) (sym (leaves b e)) ∙ h)))
+              (g .kept z (omega arith) ∙ ap (λ (t : Bool). cond t 0 (at p z)) (sym (ap (hasBit s) (sym (leaves e)) ∙ h)))
           by x (inr k) = g .done x k
 
   pub taking-all : {z : ℕ} {q : Position} → Taking ends s p z q → length p ≤ z → q ≡ leftPosition ends s p

@@ -1,7 +1,7 @@
 -- Ways made word by word: none at first, one more for a word that a set goes on over, the same for any other word.
 -- From the laws of one way more; and no way leads out.
-use Prim.Native.Nat.{ℕ, zero, suc, _+_, _*_, _≤_, _<_}
-use mathlib.Core.Path.{_≡_, refl, sym, ap, _∙_, subst}
+use Prim.Native.Nat.{ℕ, _+_, _*_, _≤_, _<_}
+use mathlib.Core.Path.{_≡_, sym, ap, _∙_, subst}
 use mathlib.Core.List.{List}
 use mathlib.Core.Logic.{_⊎_, inl, inr, ⊎-elim}
 use mathlib.Core.Bool.{Bool, true, false, true≢false}
@@ -10,6 +10,7 @@ use native.Mathlib.Omega.{arith}
 use lib.ListN.{length, getD, replicate, length-replicate, length-set}
 use Rattle.model.specs.Track.{Track, rev}
 use Rattle.model.specs.Position.{Position}
+use Rattle.model.proofs.ListLaws.{getD-zeros}
 use Rattle.model.proofs.WordLaws.{rev-below}
 use Rattle.points.specs.Sets.{hasBit, Ways}
 use Rattle.points.proofs.BitLaws.{bit-none}
@@ -17,16 +18,11 @@ use Rattle.points.proofs.WayLaws.{added, added-way, added-old, added-new}
 use Rattle.parts.specs.Home.{Ready}
 use Rattle.parts.specs.Ways.{Sized, endOf, Over}
 
-none-at : (n q : ℕ) → _≡_ {A = ℕ} (getD (replicate n 0) q 0) 0
-none-at zero q = refl
-none-at (suc n) zero = refl
-none-at (suc n) (suc q) = none-at n q
-
 module _ (ends : List ℕ) (goes : ℕ → Bool) where
   pub over-none : Over ends goes 0 (replicate 64 0)
   over-none = record {
     long = length-replicate {A = ℕ} 64 0;
-    sound = λ a b e. absurd (true≢false (sym e ∙ ap (λ (x : ℕ). hasBit x b) (none-at 64 a) ∙ bit-none b));
+    sound = λ a b e. absurd (true≢false (sym e ∙ ap (λ (x : ℕ). hasBit x b) (getD-zeros 64 a) ∙ bit-none b));
     whole = λ w h g. absurd (omega arith);
   }
 
@@ -56,10 +52,9 @@ module _ (ends : List ℕ) (goes : ℕ → Bool) where
             (added-new ways (getD ends n 0) (endOf ends n) inside)
         to w k (inr l) = added-old ways (getD ends n 0) (endOf ends n) inside (getD ends w 0) (endOf ends w) (o .whole w l k)
 
-    -- as the code has it: b is the word's other way, and more are the ways after
-    pub over-added : goes n ≡ true → getD ends n 0 < 64 → (b : ℕ) → b ≡ rev n → (more : List ℕ) → more ≡ added ways (getD ends n 0) (getD ends b 0)
-        → Over ends goes (n + 1) more
-    over-added g h b e more k = subst (Over ends goes (n + 1)) (sym (k ∙ ap (λ (x : ℕ). added ways (getD ends n 0) (getD ends x 0)) e)) (over-more g h)
+    -- as the code has it: b is where the word leaves, and more are the ways after
+    pub over-added : goes n ≡ true → getD ends n 0 < 64 → {b : ℕ} → b ≡ endOf ends n → {more : List ℕ} → more ≡ added ways (getD ends n 0) b → Over ends goes (n + 1) more
+    over-added g h e k = subst (Over ends goes (n + 1)) (sym (k ∙ ap (added ways (getD ends n 0)) e)) (over-more g h)
 
     pub over-skip : goes n ≡ false → Over ends goes (n + 1) ways
     over-skip g = record {

@@ -5,12 +5,11 @@ use mathlib.Core.Path.{_≡_}
 use mathlib.Core.Bool.{Bool, true, not, _&&_, _||_}
 use lib.ListN.{length, getD}
 use lib.Dec.{eqb}
-use Rattle.model.specs.Track.{zoneOf, headingOf, rev}
+use Rattle.model.specs.Track.{trackOf, zoneOf, headingOf, rev}
 use Rattle.model.specs.Position.{Position, at, isFree}
 use Rattle.model.specs.Labels.{label}
 use Rattle.rules.specs.Collapse.{freeParts, loopIn}
 use Rattle.points.specs.Sets.{hasBit}
-use Rattle.parts.specs.Home.{trackOf}
 
 -- two ends for each zone, each of them one of so many points
 pub record Sized (points zones : ℕ) (ends : List ℕ) (p : Position) : Type 0 where

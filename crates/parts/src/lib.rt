@@ -2,21 +2,14 @@
 // and the carriers that the collapse leaves.
 ghost use mathlib.Core.Path.{_≡_};
 ghost use mathlib.Core.Bool.{false, _&&_};
-ghost use Prim.Native.Nat.{_*_, _-_, _^_, _≤_, _<_};
+ghost use Prim.Native.Nat.{_*_, _-_, _<_};
 ghost use lib.ListN.{length, getD, replicate};
 ghost use Rattle.model.specs.Lists.{below, count};
-ghost use Rattle.model.specs.Track.{rev};
+ghost use Rattle.model.specs.Track.{trackOf};
 ghost use Rattle.model.specs.Position.{isFree};
 ghost use Rattle.points.specs.Sets.{hasBit};
-ghost use Rattle.parts.specs.Home.{trackOf, Ready, HomeWord, leftPosition, Collapsed};
+ghost use Rattle.parts.specs.Home.{Ready, HomeWord, leftPosition, Collapsed};
 ghost use Rattle.parts.specs.Ways.{Sized, goesOn, Over, Looped};
-
-// The same zone, the other way.
-fn back(w: usize) -> usize
-    ensures { λ r. ⌜ r ≡ rev w ⌝ }
-{
-    2 * (w / 2) + (1 - w % 2)
-}
 
 // Whether a set of points goes on over word w: its zone is free; or, in merging, its carrier heads the other way, or leaves at a point
 // of a part with a loop.
@@ -34,7 +27,7 @@ fn goes_on(ends: &[usize], position: &[u32], merging: bool, looped: u64, w: usiz
     if w % 2 != (v % 2) as usize {
         return true;
     }
-    points::has(looped, ends[back(w)])
+    points::has(looped, words::leaving(ends, w))
 }
 
 // The ways over all words that a set goes on over.
@@ -45,7 +38,7 @@ fn add_ways(ends: &[usize], position: &[u32], merging: bool, looped: u64, ways: 
     let mut w = 0;
     while w < ends.len() {
         if goes_on(ends, position, merging, looped, w) {
-            let q = ends[back(w)];
+            let q = words::leaving(ends, w);
             points::add_way(ways, ends[w], q);
         }
         w += 1;
@@ -70,14 +63,6 @@ fn zones_in(zones: usize, ends: &[usize], position: &[u32], part: u64) -> usize
     n
 }
 
-// All points, of so many.
-fn all_points(points: usize) -> u64
-    requires { ⌜ (0 < points) × (points ≤ 64) ⌝ }
-    ensures { λ r. ⌜ r ≡ 2 ^ points - 1 ⌝ }
-{
-    !0u64 >> (64 - points)
-}
-
 // The points of the free parts that hold a loop: at least as many free zones as points. The part of the lowest point not yet in one is
 // grown over the ways of free zones.
 fn loops(points: usize, zones: usize, ends: &[usize], position: &[u32], ways: &[u64]) -> u64
@@ -85,7 +70,7 @@ fn loops(points: usize, zones: usize, ends: &[usize], position: &[u32], ways: &[
     ensures { λ r. ⌜ Looped points zones (now (ends .entry)) (now (position .entry)) r ⌝ }
 {
     let mut looped = 0;
-    let mut rest = all_points(points);
+    let mut rest = points::all(points);
     while rest != 0 {
         let part = points::grow(ways, points::lowest(rest));
         if points::size(part) <= zones_in(zones, ends, position, part) {
@@ -126,7 +111,7 @@ fn take_off(zones: usize, ends: &[usize], set: u64, position: &mut [u32])
     let mut z = 0;
     while z < zones {
         let v = position[z];
-        let q = ends[back(2 * z + (v % 2) as usize)];
+        let q = words::leaving(ends, 2 * z + (v % 2) as usize);
         if points::has(set, q) {
             position[z] = 0;
         }

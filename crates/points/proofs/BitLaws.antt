@@ -2,7 +2,7 @@
 -- A bit is the lowest digit after so many halvings: the laws go by one digit, and by induction on the place.
 use Prim.Native.Nat.{ℕ, zero, suc, _-_, _*_, _/_, _%_, _^_, _≤_, _<_, zero-le, suc-le-suc, min, max}
 use mathlib.Core.Path.{_≡_, refl, sym, ap, ap₂, _∙_}
-use mathlib.Core.Logic.{_⊎_, inl, inr}
+use mathlib.Core.Logic.{_⊎_}
 use mathlib.Core.Bool.{Bool, true, false, not, _&&_, _||_, and-false, or-true, true≢false}
 use native.Mathlib.Nat.{pow-suc, lt-of-le-of-lt}
 use native.Mathlib.Numerals.{one-add}
@@ -12,6 +12,7 @@ use lib.Dec.{eqb, ltb, eqb·zero-suc, eqb·suc-zero, eqb·suc-suc}
 use lib.Arith.{digits-mod}
 use lib.Pow.{shr-shr, pow-pos, pow-lt}
 use lib.Bits.{bitAnd, bitOr, and-le-l, and-shr, or-shr, and-step, or-step}
+use Rattle.model.proofs.BoolLaws.{and-left, and-right, or-cases}
 use Rattle.points.specs.Sets.{hasBit, less}
 
 -- the lowest bit, and the others one place down
@@ -92,6 +93,12 @@ pub bit-none : (p : ℕ) → hasBit 0 p ≡ false
 bit-none zero = bit-first 0
 bit-none (suc p) = bit-next 0 p ∙ bit-none p
 
+-- all points, of k
+pub bit-all : (k p : ℕ) → p < k → hasBit (2 ^ k - 1) p ≡ true
+bit-all k p l =
+    let whole : 2 ^ k - 1 - 0 ≡ 2 ^ k - 1 = omega arith in
+    ap (λ (x : ℕ). hasBit x p) (sym whole) ∙ bit-complement k 0 p (pow-pos k) l ∙ ap not (bit-none p)
+
 -- one point
 pub bit-alone : (p q : ℕ) → hasBit (2 ^ p) q ≡ eqb q p
 bit-alone zero zero = bit-first 1
@@ -152,21 +159,9 @@ unfolding less
 less-word s t h = lt-of-le-of-lt (and-le-l s (2 ^ 64 - 1 - t)) h
 
 -- the same as facts: where a point is after each operation, and where it came from
-either : (a b : Bool) → (a || b) ≡ true → (a ≡ true) ⊎ (b ≡ true)
-either true b e = inl refl
-either false b e = inr e
-
-first-of : (a b : Bool) → (a && b) ≡ true → a ≡ true
-first-of true b e = refl
-first-of false b e = e
-
-second-of : (a b : Bool) → (a && b) ≡ true → b ≡ true
-second-of true b e = e
-second-of false b e = absurd (true≢false (sym e))
-
 module _ (s t p : ℕ) where
   pub in-or : hasBit (bitOr s t) p ≡ true → (hasBit s p ≡ true) ⊎ (hasBit t p ≡ true)
-  in-or e = either (hasBit s p) (hasBit t p) (sym (bit-or s t p) ∙ e)
+  in-or e = or-cases (hasBit s p) (hasBit t p) (sym (bit-or s t p) ∙ e)
 
   pub or-left : hasBit s p ≡ true → hasBit (bitOr s t) p ≡ true
   or-left e = bit-or s t p ∙ ap (λ (b : Bool). b || hasBit t p) e
@@ -183,10 +178,10 @@ module _ (s t p : ℕ) where
 
   module _ (h : s < 2 ^ 64) (g : t < 2 ^ 64) where
     pub less-in : hasBit (less s t) p ≡ true → hasBit s p ≡ true
-    less-in e = first-of (hasBit s p) (not (hasBit t p)) (sym (bit-less s t p h g) ∙ e)
+    less-in e = and-left (hasBit s p) (not (hasBit t p)) (sym (bit-less s t p h g) ∙ e)
 
     pub less-not-in : hasBit (less s t) p ≡ true → hasBit t p ≡ false
-    less-not-in e = not-true (hasBit t p) (second-of (hasBit s p) (not (hasBit t p)) (sym (bit-less s t p h g) ∙ e))
+    less-not-in e = not-true (hasBit t p) (and-right (hasBit s p) (not (hasBit t p)) (sym (bit-less s t p h g) ∙ e))
 
     pub less-gone : hasBit t p ≡ true → hasBit (less s t) p ≡ false
     less-gone e = bit-less s t p h g ∙ ap (λ (b : Bool). hasBit s p && not b) e ∙ and-false (hasBit s p)

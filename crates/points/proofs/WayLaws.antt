@@ -1,6 +1,6 @@
 -- Ways made one by one, and what is reached over them.
 -- A way more changes one bit of one word; what is reached goes by the steps.
-use Prim.Native.Nat.{ℕ, zero, suc, _^_, _≤_, _<_}
+use Prim.Native.Nat.{ℕ, _^_, _≤_, _<_}
 use mathlib.Core.Path.{_≡_, refl, sym, ap, _∙_}
 use mathlib.Core.List.{List}
 use mathlib.Core.Bool.{Bool, true, false, _&&_, _||_, or-false, true≢false}
@@ -11,6 +11,8 @@ use lib.ListN.{length, getD, set, replicate, length-set, length-replicate}
 use lib.Seq.{getD-set-same, getD-set-other}
 use lib.Dec.{eqb}
 use lib.Bits.{bitOr}
+use Rattle.model.proofs.BoolLaws.{same-test}
+use Rattle.model.proofs.ListLaws.{getD-zeros}
 use Rattle.points.specs.Sets.{hasBit, Ways, Reach, Grown}
 use Rattle.points.specs.Sets.Reach.{here, on}
 use Rattle.points.proofs.BitLaws.{bit-or, bit-none, bit-alone, or-right, alone-there, same-bits, point-below}
@@ -52,16 +54,11 @@ pub added-new : (ways : List ℕ) (p q : ℕ) → p < length ways → hasBit (ge
 added-new ways p q l =
     ap (λ (x : ℕ). hasBit x q) (getD-set-same ways p (bitOr (getD ways p 0) (2 ^ q)) 0 l) ∙ or-right (getD ways p 0) (2 ^ q) q (alone-there q)
 
-none-at : (n q : ℕ) → _≡_ {A = ℕ} (getD (replicate n 0) q 0) 0
-none-at zero q = refl
-none-at (suc n) zero = refl
-none-at (suc n) (suc q) = none-at n q
-
 -- no way leads out: of none, of one more, of 64 words
 pub ways-none : (n : ℕ) → n ≤ 64 → Ways (replicate n 0)
 ways-none n l = record {
   few = simp length-replicate l;
-  inside = λ q r e. absurd (true≢false (sym e ∙ ap (λ (x : ℕ). hasBit x r) (none-at n q) ∙ bit-none r));
+  inside = λ q r e. absurd (true≢false (sym e ∙ ap (λ (x : ℕ). hasBit x r) (getD-zeros n q) ∙ bit-none r));
 }
 
 pub ways-added : (ways : List ℕ) (p q : ℕ) → Ways ways → p < length ways → q < length ways → Ways (added ways p q)
@@ -93,9 +90,4 @@ reach-more f (on {q = m} {r = r} k e) = on (reach-more f k) (f m r e)
 
 -- the set reached is one
 pub grown-one : {ways : List ℕ} {p r s : ℕ} → Grown ways p r → Grown ways p s → r ≡ s
-grown-one {r = r} {s = s} g h = same-bits 64 r s (g .word) (h .word) (λ q l. agree (hasBit r q) (hasBit s q) (λ e. h .whole q (g .sound q e)) (λ e. g .whole q (h .sound q e)))
-  where
-    agree : (a b : Bool) → (a ≡ true → b ≡ true) → (b ≡ true → a ≡ true) → a ≡ b
-    agree true b f g = sym (f refl)
-    agree false true f g = g refl
-    agree false false f g = refl
+grown-one {r = r} {s = s} g h = same-bits 64 r s (g .word) (h .word) (λ q l. same-test (hasBit r q) (hasBit s q) (λ e. h .whole q (g .sound q e)) (λ e. g .whole q (h .sound q e)))

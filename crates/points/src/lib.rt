@@ -1,6 +1,6 @@
 // Sets of points as one word, bit p for point p; and the set that is reached over ways, one word of ways for each point.
 ghost use mathlib.Core.Path.{_≡_};
-ghost use Prim.Native.Nat.{_^_, _<_};
+ghost use Prim.Native.Nat.{_-_, _^_, _≤_, _<_};
 ghost use lib.ListN.{length, getD, set};
 ghost use lib.Bits.{bitOr};
 ghost use Rattle.model.specs.Lists.{below, count};
@@ -27,6 +27,14 @@ pub fn without(s: u64, t: u64) -> u64
     ensures { λ r. ⌜ r ≡ less s t ⌝ }
 {
     s & !t
+}
+
+// All points, of so many.
+pub fn all(points: usize) -> u64
+    requires { ⌜ (0 < points) × (points ≤ 64) ⌝ }
+    ensures { λ r. ⌜ r ≡ 2 ^ points - 1 ⌝ }
+{
+    !0u64 >> (64 - points)
 }
 
 // How many points are in s.

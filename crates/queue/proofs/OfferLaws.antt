@@ -3,7 +3,7 @@
 use Prim.Native.Nat.{ℕ, suc, _+_, _*_, _≤_, _<_}
 use mathlib.Core.Path.{_≡_, refl, sym, _∙_, ap, ap₂}
 use mathlib.Core.List.{List, [], _∷_, _++_}
-use mathlib.Core.Bool.{Bool, true, false, not, _||_}
+use mathlib.Core.Bool.{Bool, true, false, _||_, or-true, or-false}
 use native.Mathlib.Omega.{arith}
 use native.Mathlib.Numerals.{add-one}
 use lib.ListN.{length, getD, take, set, length-set}
@@ -12,29 +12,13 @@ use lib.Dec.{eqb}
 use borrow.Author.Tests.{eqb-true, eqb-false, eq-eqb}
 use Rattle.model.specs.Lists.{below, consIf, keep, any, count}
 use Rattle.model.specs.Track.{rev}
-use Rattle.model.proofs.ListLaws.{keep-keep}
+use Rattle.model.proofs.ListLaws.{keep-keep, any-append}
 use Rattle.model.proofs.CountLaws.{count-one-more, count-below}
 use Rattle.rules.specs.Key.{nexts}
 use Rattle.least.specs.Queue.{Queue, inQueue, offerIf, offer, offerAll}
 use Rattle.queue.specs.Words.{Chain, stop, link}
 use Rattle.queue.specs.Searching.{zonesOnly, mayFollow, queueIn, Queued, Offering, Offered}
 use Rattle.queue.proofs.Chains.{chain-low}
-
-any-append : (f : ℕ → Bool) (l m : List ℕ) → any f (l ++ m) ≡ (any f l || any f m)
-any-append f [] m = refl
-any-append f (a ∷ l) m = ap (λ (t : Bool). f a || t) (any-append f l m) ∙ or-assoc (f a) (any f l) (any f m)
-  where
-    or-assoc : (r s t : Bool) → (r || (s || t)) ≡ ((r || s) || t)
-    or-assoc true s t = refl
-    or-assoc false s t = refl
-
-or-true : (t : Bool) → (t || true) ≡ true
-or-true true = refl
-or-true false = refl
-
-or-false : (t : Bool) → (t || false) ≡ t
-or-false true = refl
-or-false false = refl
 
 -- a word that was not seen, put at the end of the queue
 

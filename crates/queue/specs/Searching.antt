@@ -6,7 +6,7 @@ use mathlib.Core.Bool.{Bool, not, _&&_, _||_}
 use lib.ListN.{length, getD, take}
 use lib.Dec.{eqb}
 use Rattle.model.specs.Lists.{below, any, count}
-use Rattle.model.specs.Track.{Track, zoneOf}
+use Rattle.model.specs.Track.{Track, trackOf, zoneOf}
 use Rattle.model.specs.Position.{Position, at, carrierOf}
 use Rattle.rules.specs.Key.{nexts}
 use Rattle.least.specs.Queue.{Queue, offerAll}
@@ -14,7 +14,7 @@ use Rattle.queue.specs.Words.{Linked}
 
 -- the zones of a track: all that the step rule reads of it
 abbrev pub zonesOnly : ℕ → List ℕ → Track
-zonesOnly zones ends = record { points = 0; home = 0; zones = zones; ends = ends }
+zonesOnly zones ends = trackOf 0 0 zones ends
 
 -- w is in another zone than `last`, which is free to carrier c
 abbrev pub mayFollow : Position → ℕ → ℕ → ℕ → Bool

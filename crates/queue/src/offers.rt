@@ -1,5 +1,4 @@
 // The queue of a breadth-first search: the words found, each with the place of the word it was found from.
-use crate::tables;
 ghost use mathlib.Core.Path.{_≡_};
 ghost use Prim.Native.Nat.{_/_, _<_};
 ghost use lib.ListN.{length};
@@ -39,7 +38,7 @@ pub fn offer_next(
     requires { ⌜ Offering zones (now ends) (now position) (now first) (now after) last i (now words) (now froms) (now seen) found ⌝ }
     ensures { λ r. ⌜ Offered zones (now (ends .entry)) (now (position .entry)) carrier last i (now (words .entry)) (now (froms .entry)) found (now (words .exit)) (now (froms .exit)) (now (seen .exit)) r ⌝ }
 {
-    let point = tables::leaving(ends, last);
+    let point = words::leaving(ends, last);
     let mut n = found;
     let mut next = first[point];
     while next < 2 * zones {

@@ -1,3 +1,4 @@
 pub mod StarredHold
 pub mod TableHolds
 pub mod StepTested
+pub mod OutTested

@@ -1,7 +1,7 @@
 -- Every row of the table of starred boards holds, and single moves empty the turn with 6.
 -- The definitions compute: one `refl` for the whole table, and each move's conditions are closed numbers.
 use Prim.Native.Nat.{ℕ, _+_, _*_, _<_}
-use mathlib.Core.List.{List, [], _∷_, map}
+use mathlib.Core.List.{[], _∷_, map}
 use mathlib.Core.Path.{_≡_, refl}
 use native.Mathlib.Omega.{arith}
 use lib.ListN.{length}
@@ -11,11 +11,11 @@ use Rattle.model.specs.Position.{Position, at, Stands}
 use Rattle.model.specs.Labels.{parts, joinZones, join}
 use Rattle.model.specs.Reading.{refusal, tooShort, wrongLength, wrongVersion, outOfRange, wrongCount, badZone, repeated, thin, apart, trackSaid, positionSaid}
 use Rattle.rules.specs.Search.{leastFrom, wordsTo, goalIn}
-use Rattle.rules.specs.Key.{KeyAnswer, keyOf, keyIn, keyFor, named, run, runFor, firstToGo, leastRoute, zoneFor, nexts, planWords}
-use Rattle.rules.specs.Collapse.{CollapseAnswer, collapseOf, collapseIn, left, mergeAll, mergeZone, joined, turns, loopIn, freeParts}
+use Rattle.rules.specs.Key.{keyOf, keyIn, keyFor, named, run, runFor, firstToGo, leastRoute, zoneFor, nexts, planWords}
+use Rattle.rules.specs.Collapse.{collapseOf, collapseIn, left, mergeAll, mergeZone, joined, turns, loopIn, freeParts}
 use Rattle.rules.specs.Sheet.{markOf, markFor, markClaim, sameList, markEntries, markEntry, markEnd, endsHome, byRules, follow, stillOut}
-use Rattle.rules.specs.Tries.{Move, into, home, Allowed, enters, arrives, Moved, Moves}
-use Rattle.rules.specs.Starred.{Row, boardT, turnWith, farLoop, starred, given, said, turnMoves}
+use Rattle.rules.specs.Tries.{enters, arrives, Moved, Moves}
+use Rattle.rules.specs.Starred.{boardT, turnWith, farLoop, starred, given, said, turnMoves}
 
 pub starred-rows : length starred ≡ 10
 unfolding starred

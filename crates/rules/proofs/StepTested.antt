@@ -1,12 +1,12 @@
 -- The step rule as tested is the step rule as stated: `steps` with a word below 2 × Z holds exactly where `Step` does.
 -- Each part of the test against the part of the record that it tests.
 use Prim.Native.Nat.{ℕ, _*_, _<_}
-use mathlib.Core.Path.{_≡_, refl, ap, ap₂}
-use mathlib.Core.Bool.{Bool, true, false, not, _&&_, _||_}
+use mathlib.Core.Path.{_≡_, ap}
+use mathlib.Core.Bool.{Bool, true, not, _&&_, _||_}
 use mathlib.Core.Logic.{_⊎_, inl, inr, ⊎-elim}
 use lib.Dec.{eqb}
 use borrow.Author.Tests.{eqb-true, eqb-false, eq-eqb, ne-eqb, not-true}
-use Rattle.model.proofs.BoolLaws.{and-left, and-right, or-left, or-right}
+use Rattle.model.proofs.BoolLaws.{and-left, and-right, and-both, or-left, or-right, or-cases}
 use Rattle.model.specs.Track.{Track, zoneOf, start, leave}
 use Rattle.model.specs.Position.{Position, at, carrierOf}
 use Rattle.rules.specs.Routes.{Step}
@@ -15,13 +15,6 @@ use Rattle.rules.specs.Key.{steps}
 -- the carrier may enter zone z: it is free, or its own
 mayEnter : Position → ℕ → ℕ → Bool
 mayEnter p c z = eqb (at p z) 0 || eqb (carrierOf (at p z)) c
-
-or-cases : (a b : Bool) → (a || b) ≡ true → (a ≡ true) ⊎ (b ≡ true)
-or-cases true b h = inl refl
-or-cases false b h = inr h
-
-and-both : (a b : Bool) → a ≡ true → b ≡ true → (a && b) ≡ true
-and-both a b p q = ap₂ (λ (x y : Bool). x && y) p q
 
 pub step-of-test : (t : Track) (p : Position) (c w v : ℕ) → v < 2 * t .zones → steps t p c w v ≡ true → Step t p c w v
 unfolding mayEnter

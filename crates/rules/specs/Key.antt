@@ -4,7 +4,7 @@ use mathlib.Core.List.{List, [], _∷_, _++_}
 use mathlib.Core.Bool.{Bool, cond, not, _&&_, _||_}
 use mathlib.Core.Option.{Option, none, some}
 use lib.ListN.{length}
-use lib.Dec.{leb, ltb, eqb}
+use lib.Dec.{ltb, eqb}
 use Rattle.model.specs.Lists.{below, keep, first}
 use Rattle.model.specs.Track.{Track, zoneOf, headingOf, start, leave}
 use Rattle.model.specs.Position.{Position, at, carrierOf, retire, outs}

@@ -1,6 +1,6 @@
 -- The sheet: what a candidate writes, when it is right, and the number that the marker gives it.
 use Prim.Native.Nat.{ℕ, zero, suc, _+_, _*_}
-use mathlib.Core.List.{List, [], _∷_, _++_, List·Memᴰ}
+use mathlib.Core.List.{List, [], _∷_, List·Memᴰ}
 use mathlib.Core.Path.{_≡_}
 use mathlib.Core.Bool.{Bool, true, false, cond, not, _&&_, _||_}
 use mathlib.Core.Logic.{_⊎_, _↔_}
@@ -58,17 +58,22 @@ endsHome t (w ∷ v ∷ vs) = endsHome t (v ∷ vs)
 unfoldable pub markEnd : Position → ℕ
 markEnd p = cond (eqb (length (outs p)) 0) 0 34
 
+-- the four tests of an entry in their order; one that passes them all leaves the number of the rest
+abbrev pub numberOf : Bool → Bool → Bool → Bool → ℕ → ℕ
+numberOf short out rules home rest =
+    cond short 30
+    (cond (not out) 31
+    (cond (not rules) 32
+    (cond (not home) 33 rest)))
+
 -- one entry, and then the rest: 30 for an entry with under two words, count 0 or a count past the end; 31 for a carrier that
 -- isn't still out; 32 for a word against the rules; 33 for a route that doesn't leave at home
 unfoldable pub markEntry : Track → Position → List ℕ → (Position → List ℕ → ℕ) → ℕ
 markEntry t p [] rest = markEnd p
 markEntry t p (c ∷ []) rest = 30
 markEntry t p (c ∷ k ∷ ws) rest =
-    let onwards = rest (retire c p) (drop k ws) in
-    cond (eqb k 0 || ltb (length ws) k) 30
-    (cond (not (stillOut p c)) 31
-    (cond (not (byRules t p c (take k ws))) 32
-    (cond (not (endsHome t (take k ws))) 33 onwards)))
+    let route = take k ws in
+    numberOf (eqb k 0 || ltb (length ws) k) (stillOut p c) (byRules t p c route) (endsHome t route) (rest (retire c p) (drop k ws))
 
 -- entry by entry; there are no more entries than words
 unfoldable pub markEntries : ℕ → Track → Position → List ℕ → ℕ

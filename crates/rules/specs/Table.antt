@@ -1,8 +1,7 @@
 -- The table of verdicts of document 01, each row with its own input, and inputs beside them that tell a row from its neighbours.
 -- With the starred boards these pin the numbers, the rooms and the layout of bytes that no theorem speaks of.
 use Prim.Native.Nat.{ℕ}
-use mathlib.Core.List.{List, [], _∷_, _++_}
-use lib.ListN.{replicate}
+use mathlib.Core.List.{List, [], _∷_}
 use Rattle.rules.specs.Key.{KeyAnswer, turnedBack, keyOf}
 use Rattle.rules.specs.Collapse.{CollapseAnswer, collapseOf}
 use Rattle.rules.specs.Sheet.{markOf}

@@ -1,41 +1,23 @@
--- A carrier that leaves: its zone is freed, and the zones in order that are still held are those of the carriers still out.
--- A zone is looked at before and after; no carrier stands in two.
-use Prim.Native.Nat.{ℕ, _+_, _*_, _<_}
+-- A carrier that leaves: the zones in order that are still held are those of the carriers still out.
+-- A zone is looked at before and after.
+use Prim.Native.Nat.{ℕ}
 use mathlib.Core.Path.{_≡_, refl, sym, _∙_, ap, ap₂, subst}
 use mathlib.Core.List.{List, [], _∷_, List·Memᴰ, Memᴰ·map}
 use mathlib.Core.Bool.{Bool, true, false, not}
 use mathlib.Core.Option.{Option, none, some}
 use native.Mathlib.Omega.{arith}
-use lib.ListN.{length, set, take, length-set}
-use lib.Seq.{getD-set-same, getD-set-other, ext-getD}
+use lib.ListN.{take}
 use lib.Dec.{eqb}
-use borrow.Author.Tests.{eqb-true, eqb-false, eq-eqb, ne-eqb}
+use borrow.Author.Tests.{eqb-true, eq-eqb, ne-eqb}
 use Rattle.model.specs.Lists.{consIf, keep}
-use Rattle.model.specs.Track.{Track, headingOf}
-use Rattle.model.specs.Position.{Position, at, carrierOf, isFree, Stands, Once, retire}
+use Rattle.model.specs.Track.{Track, trackOf}
+use Rattle.model.specs.Position.{Position, at, carrierOf, isFree, Once, retire}
 use Rattle.model.proofs.ListLaws.{keep-all}
-use Rattle.model.proofs.PositionLaws.{length-without, at-without-gone, at-without-kept, free-without, held-stands, mem-outs, outs-retire}
+use Rattle.model.proofs.PositionLaws.{length-without, at-without-gone, at-without-kept, free-without, mem-outs, outs-retire}
 use Rattle.rules.specs.Routes.{Entry}
 use Rattle.rules.specs.Key.{nexts, zoneFor, routeFrom, leastRoute, goesElse, firstToGo}
 use Rattle.carriers.specs.Order.{carriersIn, Sorted}
 use Rattle.search.specs.Order.{InOrder}
-
--- the zone of the carrier that leaves is freed, and no other
-pub retire-set : (p : Position) (z : ℕ) → Once p → z < length p → (carrierOf (at p z) ≡ 0 → ⊥) → retire (carrierOf (at p z)) p ≡ set p z 0
-retire-set p z once h held =
-    ext-getD 0 (retire (carrierOf (at p z)) p) (set p z 0) (length-without (eqb (carrierOf (at p z))) p ∙ sym (length-set p z 0))
-    (λ j l. go j (rw length-without at l) (eqb j z) refl (eqb (carrierOf (at p z)) (carrierOf (at p j))) refl)
-  where
-    go : (j : ℕ) → j < length p → (t : Bool) → eqb j z ≡ t → (s : Bool) → eqb (carrierOf (at p z)) (carrierOf (at p j)) ≡ s → at (retire (carrierOf (at p z)) p) j ≡ at (set p z 0) j
-    go j l true e s d =
-        subst (λ (i : ℕ). at (retire (carrierOf (at p z)) p) i ≡ at (set p z 0) i) (sym (eqb-true j z e))
-        (at-without-gone (eqb (carrierOf (at p z))) p z (eq-eqb (carrierOf (at p z)) (carrierOf (at p z)) refl) ∙ sym (getD-set-same p z 0 0 h))
-    go j l false e false d = at-without-kept (eqb (carrierOf (at p z))) p j d ∙ sym (getD-set-other p z j 0 0 (eqb-false j z e))
-    go j l false e true d =
-        let same : carrierOf (at p z) ≡ carrierOf (at p j) = eqb-true _ _ d in
-        let there : Stands p (carrierOf (at p z)) (2 * j + headingOf (at p j)) = subst (λ (c : ℕ). Stands p c (2 * j + headingOf (at p j))) (sym same) (held-stands p j l (λ n. held (same ∙ n))) in
-        let one : 2 * z + headingOf (at p z) ≡ 2 * j + headingOf (at p j) = once _ _ _ (held-stands p z h held) there in
-        absurd (eqb-false j z e (omega arith))
 
 -- the carriers of the held zones, without the one that leaves
 retire-held : (c : ℕ) (p : Position) (zs : List ℕ)
@@ -87,10 +69,10 @@ sorted-in-order {p} {order} {count} s = record {
 
 module _ (points q home zones : ℕ) (ends p : List ℕ) where
   abbrev t : Track
-  t = record { points = points; home = home; zones = zones; ends = ends }
+  t = trackOf points home zones ends
 
   abbrev t′ : Track
-  t′ = record { points = q; home = home; zones = zones; ends = ends }
+  t′ = trackOf q home zones ends
 
   route-points : (c : ℕ) → leastRoute t p c ≡ leastRoute t′ p c
   unfolding leastRoute nexts

@@ -6,11 +6,11 @@ use mathlib.Core.List.{List, [], _∷_, _++_}
 use mathlib.Core.Option.{Option, none, some}
 use native.Mathlib.Omega.{arith}
 use lib.ListN.{length, drop}
-use Rattle.model.specs.Track.{Track}
+use Rattle.model.specs.Track.{Track, trackOf}
 use Rattle.model.specs.Position.{Position, retire, outs}
 use Rattle.rules.specs.Routes.{Entry}
 use Rattle.rules.specs.Key.{firstToGo, Run, runOn, runFor, run, planWords}
-use Rattle.search.specs.Sending.{trackOf, SentHome}
+use Rattle.search.specs.Sending.{SentHome}
 use Rattle.search.proofs.Retiring.{first-points}
 
 -- the run, one step at a time

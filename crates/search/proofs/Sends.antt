@@ -9,9 +9,10 @@ use native.Mathlib.Nat.{suc-mul}
 use lib.ListN.{length, take, drop, set, length-append}
 use lib.Dec.{eqb}
 use lib.Seq.{take-append-seam, drop-append-add, drop-drop}
-use Rattle.model.specs.Track.{Track}
-use Rattle.model.specs.Position.{Position, at, carrierOf, Out, Once, retire, outs}
-use Rattle.model.proofs.PositionLaws.{once-retire, held-stands, outs-retire-length, length-without, without-cases}
+use Rattle.model.specs.Track.{Track, headingOf}
+use Rattle.model.specs.Position.{Position, at, carrierOf, Stands, Once, retire, outs}
+use Rattle.model.proofs.WordLaws.{heading-small, zone-word}
+use Rattle.model.proofs.PositionLaws.{once-retire, held-stands, retire-set, outs-retire-length, length-without, without-cases}
 use Rattle.rules.specs.Key.{Run, run, planWords}
 use Rattle.queue.specs.Written.{routeTo, entryOf, EntryRoom, EntryWritten}
 use Rattle.queue.proofs.Routing.{route-few}
@@ -19,7 +20,7 @@ use Rattle.search.specs.Leaving.{homeward, Seeking, Sought}
 use Rattle.search.specs.Sending.{Prepared, planOf, SentHome}
 use Rattle.search.specs.declared.Goes.{Goes}
 use Rattle.search.specs.declared.Goes.the-variants.{From, Nobody}
-use Rattle.search.proofs.Retiring.{retire-set, in-order-retire}
+use Rattle.search.proofs.Retiring.{in-order-retire}
 use Rattle.search.proofs.Runs.{run-none, run-out, run-step}
 
 -- the rounds, with the carriers of `written` gone and k words stored
@@ -127,14 +128,14 @@ module _ {home zones : ℕ} {ends first after order : List ℕ} {count : ℕ} {w
     room = omega (arith, x .sought .given .few, one-entry, u .room, u .same-plan);
   }
 
-  stands : Out p carrier
-  stands = (_, held-stands p zone goes-inside (x .sought .given .numbered))
+  stands : Stands p carrier (2 * zone + headingOf (at p zone))
+  stands = held-stands p zone goes-inside (x .sought .given .numbered)
 
   step : run track p ≡ record { plan = record { carrier = carrier; words = routeTo words′ froms′ place } ∷ run track (retire carrier p) .plan; last = run track (retire carrier p) .last }
-  step = run-step track p (sym (x .sought .entry)) (outs-retire-length carrier p once stands)
+  step = run-step track p (sym (x .sought .entry)) (outs-retire-length carrier p once (_, stands))
 
   freed : retire carrier p ≡ set p zone 0
-  freed = retire-set p zone once goes-inside (x .sought .given .numbered)
+  freed = retire-set once stands ∙ ap (λ (z : ℕ). set p z 0) (zone-word zone (headingOf (at p zone)) (heading-small (at p zone)))
 
   retired-seeking : Seeking zones ends (retire carrier p) first after order count words′ froms′
   retired-seeking = record {
@@ -157,7 +158,7 @@ module _ {home zones : ℕ} {ends first after order : List ℕ} {count : ℕ} {w
       same-froms = x .same-froms ∙ u .same-froms;
       same-position = length-without (eqb carrier) p ∙ u .same-position;
       same-plan = as-plan ∙ u .same-plan;
-      counted = omega (arith, x .some-left, u .counted, outs-retire-length carrier p once stands);
+      counted = omega (arith, x .some-left, u .counted, outs-retire-length carrier p once (_, stands));
       written = u .written ++ entry;
       here = length-append (u .written) entry ∙ ap (λ (n : ℕ). n + length entry) (u .here) ∙ sym (w .next);
       stored = stored;

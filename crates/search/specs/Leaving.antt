@@ -4,7 +4,7 @@ use mathlib.Core.List.{List}
 use mathlib.Core.Path.{_≡_}
 use mathlib.Core.Option.{Option, none, some}
 use lib.ListN.{length}
-use Rattle.model.specs.Track.{Track}
+use Rattle.model.specs.Track.{Track, trackOf}
 use Rattle.model.specs.Position.{Position, at, carrierOf, Once, outs}
 use Rattle.rules.specs.Routes.{Entry}
 use Rattle.rules.specs.Key.{firstToGo}
@@ -16,7 +16,7 @@ use Rattle.search.specs.declared.Goes.the-variants.{From, Nobody}
 
 -- a track but for its count of points, which no route depends on
 abbrev pub homeward : ℕ → ℕ → List ℕ → Track
-homeward home zones ends = record { points = 0; home = home; zones = zones; ends = ends }
+homeward home zones ends = trackOf 0 home zones ends
 
 -- what the search over the carriers asks: no carrier in two zones, no number 1, tables, order, and room for a queue of all words
 pub record Seeking (zones : ℕ) (ends p first after order : List ℕ) (count : ℕ) (words froms : List ℕ) : Type 0 where

@@ -3,15 +3,11 @@ use Prim.Native.Nat.{ℕ, _+_, _*_, _≤_, _<_}
 use mathlib.Core.List.{List, _++_}
 use mathlib.Core.Path.{_≡_}
 use lib.ListN.{length, drop}
-use Rattle.model.specs.Track.{Track}
+use Rattle.model.specs.Track.{Track, trackOf}
 use Rattle.model.specs.Position.{Position, at, outs}
 use Rattle.model.specs.Accepted.{Laid}
 use Rattle.rules.specs.Key.{run, planWords}
 use Rattle.search.specs.Leaving.{Seeking}
-
--- a track of these numbers
-abbrev pub trackOf : ℕ → ℕ → ℕ → List ℕ → Track
-trackOf points home zones ends = record { points = points; home = home; zones = zones; ends = ends }
 
 -- a position laid on a track of the sizes of document 01, carriers of 16 bits, and room for the plan of all of them
 pub record Ready (points home zones : ℕ) (ends p plan : List ℕ) : Type 0 where

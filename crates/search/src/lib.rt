@@ -46,7 +46,7 @@ fn first_to_go(
         let mut i = 0;
         while i < found {
             let w = words[i];
-            if queue::tables::leaving(ends, w) == home {
+            if words::leaving(ends, w) == home {
                 break 'carriers Goes::From(zone, i);
             }
             found = queue::offers::offer_next(

@@ -1,14 +1,12 @@
 -- The page of a board that was read, from what the key gives into room for every plan and list: 18,624 words and 96 numbers are always
 -- enough, so the key is drawn, and what it wrote is read back by its lengths.
-use Prim.Native.Nat.{ℕ, _*_, _+_, _≤_}
-use mathlib.Core.List.{List, _++_}
-use mathlib.Core.Path.{_≡_, refl, sym, ap, _∙_, subst}
+use Prim.Native.Nat.{ℕ, _≤_}
+use mathlib.Core.List.{List}
+use mathlib.Core.Path.{_≡_, refl, subst}
 use native.Mathlib.Omega.{arith}
-use lib.ListN.{length, take, drop}
-use lib.Seq.{take-at}
+use lib.ListN.{length, take}
 use Rattle.model.specs.Track.{Track}
 use Rattle.model.specs.Position.{Position, outs}
-use Rattle.rules.specs.Routes.{Entry}
 use Rattle.rules.specs.Key.{KeyAnswer, run, named, verdictOf, planWords, keyFor, keyIn}
 use Rattle.order.proofs.Sizes.{plan-room, named-most}
 use Rattle.page.specs.Page.{keyPage, pageFor, PAGE}
@@ -16,14 +14,11 @@ use Rattle.page.specs.Writing.{entriesIn, Begins, Writable}
 use Rattle.page.proofs.PlanLaws.{entries-in-plan}
 use Rattle.page.proofs.Bound.{SmallKey}
 use Rattle.page.proofs.Callers.{writable}
-use Rattle.exam.specs.Parsed.{Ready, overwritten, KeyGiven}
+use Rattle.exam.specs.Parsed.{Ready, KeyGiven}
 use Rattle.exam.proofs.ReadyLaws.{few-out, room-small}
 use Rattle.exam.proofs.KeyLaws.{key-for}
+use Rattle.exam.proofs.KeyPromised.{read-back}
 use Rattle.text.proofs.Sizes.{small-page}
-
--- what was written is read back by its length
-read-back : (written lent : List ℕ) {n : ℕ} {l : List ℕ} → n ≡ length written → l ≡ overwritten written lent → take n l ≡ written
-read-back written lent {n} e f = ap (take n) f ∙ take-at written (drop (length written) lent) n (sym e)
 
 module _ {t : Track} {p : Position} {plan list plan′ list′ : List ℕ} {out verdict words count : ℕ}
     (ready : Ready t p)

@@ -1,8 +1,8 @@
 -- The page of any bytes: too long, refused, or of the board that was read; and how it is copied out.
 use Prim.Native.Nat.{ℕ, _≤_, _<_}
-use mathlib.Core.List.{List, _++_}
+use mathlib.Core.List.{List}
 use mathlib.Core.Path.{_≡_, refl, sym, ap, _∙_, subst, subst₂}
-use mathlib.Core.Bool.{Bool, true, false, cond}
+use mathlib.Core.Bool.{Bool, true, false}
 use native.Mathlib.Omega.{arith}
 use borrow.Author.Tests.{le-leb, lt-leb, leb-true, leb-false}
 use lib.ListN.{length, take, drop}
@@ -10,7 +10,6 @@ use lib.Dec.{leb}
 use lib.Seq.{take-at}
 use Rattle.model.specs.Track.{Track}
 use Rattle.model.specs.Position.{Position}
-use Rattle.model.specs.Reading.{refusal, trackSaid, positionSaid}
 use Rattle.model.proofs.ReadingLaws.{refusal-small}
 use Rattle.board.specs.declared.Board.{Board}
 use Rattle.board.specs.Given.{boardOf}

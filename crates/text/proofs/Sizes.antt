@@ -1,13 +1,11 @@
 -- What a page is written from is small on every position that is ready, so every page fits: at most 96 zones with at most 96 carriers,
 -- carriers below 256, routes of at most 192 words. From the sizes of the key's plan and list.
-use Prim.Native.Nat.{ℕ, _*_, _≤_, _<_}
-use mathlib.Core.List.{List, [], _∷_, map, List·Memᴰ, Memᴰ·map}
-use mathlib.Core.Path.{_≡_, refl}
+use Prim.Native.Nat.{ℕ, _≤_, _<_}
+use mathlib.Core.List.{List, [], _∷_, List·Memᴰ, Memᴰ·map}
 use native.Mathlib.Omega.{arith}
 use lib.ListN.{length}
-use Rattle.model.specs.Track.{Track, zoneOf, headingOf}
-use Rattle.model.specs.Position.{Position, Out, outs}
-use Rattle.model.specs.Reading.{refusal, trackSaid, positionSaid}
+use Rattle.model.specs.Track.{Track, zoneOf}
+use Rattle.model.specs.Position.{Position, Out}
 use Rattle.rules.specs.Routes.{Entry}
 use Rattle.rules.specs.Key.{run, named, verdictOf}
 use Rattle.order.proofs.KeyRun.{run-retires}

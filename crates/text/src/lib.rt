@@ -1,7 +1,7 @@
 // The text that `key` prints for a board in bytes, written into what the caller lends.
 ghost use Prim.Native.Nat.{_≤_};
 ghost use lib.ListN.{length};
-ghost use Rattle.exam.specs.Parsed.{trackOf};
+ghost use Rattle.model.specs.Track.{trackOf};
 ghost use Rattle.page.specs.Page.{pageFor, pageOf, PAGE};
 ghost use Rattle.page.specs.Writing.{Begins};
 ghost use Rattle.text.specs.Text.{KeyText, Printable};

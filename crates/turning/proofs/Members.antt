@@ -2,7 +2,7 @@
 -- From the laws of tests and counts.
 use Prim.Native.Nat.{ℕ, suc, _<_}
 use mathlib.Core.List.{List, [], _∷_}
-use mathlib.Core.Path.{_≡_, refl, sym, _∙_}
+use mathlib.Core.Path.{_≡_, refl, _∙_}
 use mathlib.Core.Bool.{Bool, true, false, _||_}
 use native.Mathlib.Numerals.{add-one}
 use lib.Dec.{eqb}
@@ -35,9 +35,3 @@ count-no-members n = count-none (λ a. elem a []) (below n) (λ a i. refl)
 -- a new member is one more
 pub count-members : (b : ℕ) (l : List ℕ) (n : ℕ) → b < n → elem b l ≡ false → count (λ a. elem a (b ∷ l)) (below n) ≡ suc (count (λ a. elem a l) (below n))
 count-members b l n h e = count-one-more (λ a. elem a (b ∷ l)) (λ a. elem a l) n b h (elem-here b l) e (λ a i d. rw (ne-eqb a b d)) ∙ add-one _
-
--- two tests that pass together are equal
-pub same-test : (a b : Bool) → (a ≡ true → b ≡ true) → (b ≡ true → a ≡ true) → a ≡ b
-same-test true b f g = sym (f refl)
-same-test false true f g = g refl
-same-test false false f g = refl

@@ -9,10 +9,10 @@ use native.Mathlib.Omega.{arith}
 use lib.ListN.{length}
 use Rattle.model.specs.Track.{Track, Linked, start}
 use Rattle.model.proofs.WordLaws.{zone-first, first-below}
-use Rattle.model.proofs.BoolLaws.{and-left, and-right}
+use Rattle.model.proofs.BoolLaws.{and-left, and-right, same-test}
 use Rattle.model.proofs.CountLaws.{count-below-ext}
 use Rattle.turning.specs.Walks.{Walk, pointsWithin, zonesWithin}
-use Rattle.turning.proofs.Members.{elem, same-test}
+use Rattle.turning.proofs.Members.{elem}
 use Rattle.turning.proofs.WalkLaws.{widen}
 use Rattle.turning.proofs.OneMore.{among}
 use Rattle.turning.proofs.Part.{first-inside, zones-pass, ends-inside, enough, turn, no-turn}

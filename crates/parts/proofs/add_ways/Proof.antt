@@ -24,14 +24,8 @@ loop-holds c = (omega arith, rw (c .before .before .before .pre .1) (over-none _
 goes-on-requires : tie.Need-goes-on-requires Inv-loop μ-loop
 goes-on-requires c κs = (c .before .before .before .before .before .pre .0, c .loop-test .taken)
 
-back-requires : tie.Need-back-requires Inv-loop μ-loop
-back-requires c κs = search needs
-
-mul-q : tie.Need-mul-q Inv-loop μ-loop
-mul-q c = search needs
-
-shared-slice-read-q : tie.Need-shared-slice-read-q Inv-loop μ-loop
-shared-slice-read-q c = search needs
+leaving-requires : tie.Need-leaving-requires Inv-loop μ-loop
+leaving-requires c κs = search needs
 
 mul-add-way : tie.Need-mul-add-way Inv-loop μ-loop
 mul-add-way c = search needs
@@ -41,11 +35,11 @@ shared-slice-read-add-way c = search needs
 
 add-way-requires : tie.Need-add-way-requires Inv-loop μ-loop
 add-way-requires c κs =
-    let looping = c .before .before .before .before .before .before .before in
+    let looping = c .before .before .before .before .before .before in
     let a = looping .before .before .before .before in
     let w = looping .loop .w in
-    let below : w < 2 * length (now (a .args .position)) = omega (arith, a .pre .0 .ends-count, c .before .before .before .before .before .before .loop-test .taken) in
-    (omega (arith, looping .loop .inv .1 .long, a .pre .0 .inside w below), rw (c .before .before .before .back .ensures) (end-inside (a .pre .0) w below))
+    let below : w < 2 * length (now (a .args .position)) = omega (arith, a .pre .0 .ends-count, c .before .before .before .before .before .loop-test .taken) in
+    (omega (arith, looping .loop .inv .1 .long, a .pre .0 .inside w below), rw (c .before .before .leaving .ensures) (end-inside (a .pre .0) w below))
 
 add-w : tie.Need-add-w Inv-loop μ-loop
 add-w c = search needs
@@ -60,7 +54,7 @@ loop-again c =
     let w = looping .loop .w in (
       omega arith,
       ⊎-elim
-          (λ k. over-added _ _ w _ (looping .loop .inv .1) (sym (c .before .goes-on .ensures) ∙ k .0 .taken) (a .pre .0 .inside w (omega (arith, a .pre .0 .ends-count, c .before .before .loop-test .taken))) _ (k .1 .ensures) _ (k .8 ∙ k .5 .ensures))
+          (λ k. over-added _ _ w _ (looping .loop .inv .1) (sym (c .before .goes-on .ensures) ∙ k .0 .taken) (a .pre .0 .inside w (omega (arith, a .pre .0 .ends-count, c .before .before .loop-test .taken))) (k .1 .ensures) (k .7 ∙ k .4 .ensures))
           (λ k. rw (k .1) (over-skip _ _ w _ (looping .loop .inv .1) (sym (c .before .goes-on .ensures) ∙ k .0 .left)))
           (c .if1 .came),
     )
@@ -82,9 +76,7 @@ add-ways-spec =
     μ-loop
     loop-holds
     goes-on-requires
-    back-requires
-    mul-q
-    shared-slice-read-q
+    leaving-requires
     mul-add-way
     shared-slice-read-add-way
     add-way-requires

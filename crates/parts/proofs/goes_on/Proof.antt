@@ -1,12 +1,9 @@
 -- `parts::goes_on` meets its contract: each answer is what the tests that led to it say of the word.
 -- Assumes nothing.
-use Prim.Native.Nat.{ℕ}
 use mathlib.Core.Path.{sym, ap, _∙_}
 use native.Mathlib.Omega.{arith}
 use borrow.Author.Needs.{needs}
 use borrow.Author.Tests.{not-true, not-false}
-use denote.Ref.{now}
-use lib.ListN.{getD}
 use Rattle.points.specs.Sets.{hasBit}
 use Rattle.parts.proofs.WordWays.{end-inside}
 use Rattle.parts.proofs.OneWord.{goes-over-free, goes-not, goes-back, goes-by-set}
@@ -31,25 +28,19 @@ cast-if3 c = search needs
 returns-3 : tie.Need-returns-3
 returns-3 c = sym (goes-back _ _ _ _ _ (c .before .before .if1 .left) (not-false _ (c .before .if2 .left)) (c .if3 .taken))
 
-back-requires : tie.Need-back-requires
-back-requires c κs = search needs
-
-mul-has : tie.Need-mul-has
-mul-has c = search needs
-
-shared-slice-read-has : tie.Need-shared-slice-read-has
-shared-slice-read-has c = search needs
+leaving-requires : tie.Need-leaving-requires
+leaving-requires c κs = search needs
 
 has-requires : tie.Need-has-requires
 has-requires c κs =
-    let a = c .before .before .before .before .before .before .before .before in
-    rw (c .before .back .ensures) (end-inside (a .pre .0) (a .args .w) (omega (arith, a .pre .0 .ends-count, a .pre .1)))
+    let a = c .before .before .before .before .before .before .before in
+    rw (c .leaving .ensures) (end-inside (a .pre .0) (a .args .w) (omega (arith, a .pre .0 .ends-count, a .pre .1)))
 
 returns-4 : tie.Need-returns-4
 returns-4 c =
-    let tested = c .before .before .before in
+    let tested = c .before .before in
     let a = tested .before .before .before .before .before .before in
-    c .has .ensures ∙ ap (λ (x : ℕ). hasBit (a .args .looped) (getD (now (a .args .ends)) x 0)) (c .before .before .back .ensures)
+    c .has .ensures ∙ ap (hasBit (a .args .looped)) (c .before .leaving .ensures)
     ∙ sym (goes-by-set _ _ _ _ _ (tested .before .before .if1 .left) (not-false _ (tested .before .if2 .left)) (tested .if3 .left))
 
 pub goes-on-spec : {M : Type 1} → statement M
@@ -62,8 +53,6 @@ goes-on-spec =
     returns-2
     cast-if3
     returns-3
-    back-requires
-    mul-has
-    shared-slice-read-has
+    leaving-requires
     has-requires
     returns-4)

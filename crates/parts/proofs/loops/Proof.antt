@@ -15,11 +15,11 @@ Inv-loop points zones ends position ways looped₀ rest₀ looped rest = Looping
 abbrev μ-loop : tie.MeasureT-loop
 μ-loop points zones ends position ways looped₀ rest₀ looped rest = ones rest
 
-all-points-requires : tie.Need-all-points-requires Inv-loop μ-loop
-all-points-requires c κs = (c .before .before .before .pre .0 .some, c .before .before .before .pre .0 .few)
+all-requires : tie.Need-all-requires Inv-loop μ-loop
+all-requires c κs = (c .before .before .before .pre .0 .some, c .before .before .before .pre .0 .few)
 
 loop-holds : tie.Need-loop-holds Inv-loop μ-loop
-loop-holds c = rw (c .all-points .ensures) (looping-none (c .before .before .before .before .pre .0))
+loop-holds c = rw (c .all .ensures) (looping-none (c .before .before .before .before .pre .0))
 
 lowest-requires : tie.Need-lowest-requires Inv-loop μ-loop
 lowest-requires c κs = search needs
@@ -72,7 +72,7 @@ loops-spec =
     (tie.spec
     Inv-loop
     μ-loop
-    all-points-requires
+    all-requires
     loop-holds
     lowest-requires
     grow-requires

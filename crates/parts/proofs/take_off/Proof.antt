@@ -25,29 +25,23 @@ mul-v c = search needs
 slice-read-v : tie.Need-slice-read-v Inv-loop μ-loop
 slice-read-v c = search needs
 
-mul-back : tie.Need-mul-back Inv-loop μ-loop
-mul-back c = search needs
+mul-leaving : tie.Need-mul-leaving Inv-loop μ-loop
+mul-leaving c = search needs
 
-cast-back : tie.Need-cast-back Inv-loop μ-loop
-cast-back c = search needs
+cast-leaving : tie.Need-cast-leaving Inv-loop μ-loop
+cast-leaving c = search needs
 
-add-back : tie.Need-add-back Inv-loop μ-loop
-add-back c = search needs
+add-leaving : tie.Need-add-leaving Inv-loop μ-loop
+add-leaving c = search needs
 
-back-requires : tie.Need-back-requires Inv-loop μ-loop
-back-requires c κs = search needs
-
-mul-q : tie.Need-mul-q Inv-loop μ-loop
-mul-q c = search needs
-
-shared-slice-read-q : tie.Need-shared-slice-read-q Inv-loop μ-loop
-shared-slice-read-q c = search needs
+leaving-requires : tie.Need-leaving-requires Inv-loop μ-loop
+leaving-requires c κs = search needs
 
 has-requires : tie.Need-has-requires Inv-loop μ-loop
 has-requires c κs =
-    let looping = c .before .before .before .before in
+    let looping = c .before .before .before in
     let a = looping .before .before .before in
-    rw (c .before .back .ensures) (end-inside (a .pre) _ (omega arith))
+    rw (c .leaving .ensures) (end-inside (a .pre) _ (omega arith))
 
 mul-position : tie.Need-mul-position Inv-loop μ-loop
 mul-position c = search needs
@@ -63,13 +57,13 @@ loop-less c = search needs
 
 loop-again : tie.Need-loop-again Inv-loop μ-loop
 loop-again c =
-    let read = c .before .before .before in
+    let read = c .before .before in
     let looping = read .before .before .before in
     let a = looping .before .before .before in (
       omega arith,
       ⊎-elim
-          (λ k. rw (k .1) (taking-off _ _ _ (looping .loop .inv .1) _ (read .back .ensures) (omega (arith, looping .loop .inv .1 .as-long, a .pre .each, read .before .before .loop-test .taken)) (sym (c .before .has .ensures) ∙ k .0 .taken)))
-          (λ k. rw (k .1) (taking-not _ _ _ (looping .loop .inv .1) _ (read .back .ensures) (sym (c .before .has .ensures) ∙ k .0 .left)))
+          (λ k. rw (k .1) (taking-off _ _ _ (looping .loop .inv .1) (read .leaving .ensures) (omega (arith, looping .loop .inv .1 .as-long, a .pre .each, read .before .before .loop-test .taken)) (sym (c .before .has .ensures) ∙ k .0 .taken)))
+          (λ k. rw (k .1) (taking-not _ _ _ (looping .loop .inv .1) (read .leaving .ensures) (sym (c .before .has .ensures) ∙ k .0 .left)))
           (c .if1 .came),
     )
 
@@ -88,12 +82,10 @@ take-off-spec =
     loop-holds
     mul-v
     slice-read-v
-    mul-back
-    cast-back
-    add-back
-    back-requires
-    mul-q
-    shared-slice-read-q
+    mul-leaving
+    cast-leaving
+    add-leaving
+    leaving-requires
     has-requires
     mul-position
     slice-write-position

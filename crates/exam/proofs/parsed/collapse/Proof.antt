@@ -4,9 +4,8 @@ use native.Mathlib.Omega.{arith}
 use denote.Ref.{now}
 use lib.ListN.{length}
 use borrow.Author.Needs.{needs}
-use Rattle.model.specs.Track.{Track}
+use Rattle.model.specs.Track.{Track, trackOf}
 use Rattle.model.specs.Position.{outs}
-use Rattle.exam.specs.Parsed.{trackOf}
 use Rattle.exam.proofs.CollapseLaws.{collapse-refused, collapse-listable, collapse-given}
 use Rattle.exam.proofs.parsed.collapse.Statement.{statement}
 use Rattle.exam.proofs.parsed.collapse.Tie as tie

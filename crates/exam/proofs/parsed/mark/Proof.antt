@@ -4,8 +4,7 @@ use native.Mathlib.Omega.{arith}
 use Prim.Native.Nat.{_<_}
 use denote.Ref.{now}
 use lib.ListN.{length}
-use Rattle.model.specs.Track.{Track}
-use Rattle.exam.specs.Parsed.{trackOf}
+use Rattle.model.specs.Track.{Track, trackOf}
 use Rattle.exam.proofs.MarkLaws.{mark-empty, mark-plan, mark-claim, mark-other}
 use Rattle.exam.proofs.parsed.mark.Statement.{statement}
 use Rattle.exam.proofs.parsed.mark.Tie as tie

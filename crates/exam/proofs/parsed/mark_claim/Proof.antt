@@ -2,7 +2,8 @@
 use borrow.Author.Needs.{needs}
 use native.Mathlib.Omega.{arith}
 use denote.Ref.{now}
-use Rattle.exam.specs.Parsed.{trackOf, Ready}
+use Rattle.model.specs.Track.{trackOf}
+use Rattle.exam.specs.Parsed.{Ready}
 use Rattle.exam.proofs.ReadyLaws.{few-out}
 use Rattle.exam.proofs.CollapseLaws.{named-fits}
 use Rattle.exam.proofs.MarkLaws.{claim-false, claim-marked}

@@ -4,7 +4,7 @@ use mathlib.Core.Path.{refl, sym}
 use mathlib.Core.Bool.{true, false}
 use borrow.Author.Needs.{needs}
 use borrow.Author.Tests.{eq-eqb, ne-eqb, lt-ltb, le-ltb}
-use Rattle.marker.proofs.FreedLaws.{standing-tested}
+use Rattle.marker.proofs.StandingLaws.{standing-tested}
 use Rattle.marker.proofs.route.stands.Statement.{statement}
 use Rattle.marker.proofs.route.stands.Tie as tie
 

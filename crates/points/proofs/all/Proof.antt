@@ -1,12 +1,12 @@
--- `parts::all_points` meets its contract: 64 ones less the highest are the ones of so many points.
+-- `points::all` meets its contract: 64 ones less the highest are the ones of so many points.
 -- Assumes nothing.
 use Prim.Native.Nat.{ℕ, _+_, _-_, _*_, _/_, _^_, _≤_}
 use mathlib.Core.Path.{_≡_, sym, ap, _∙_}
 use native.Mathlib.Omega.{arith}
 use borrow.Author.Needs.{needs}
 use lib.Pow.{ones-split, ones-lt, high}
-use Rattle.parts.proofs.all_points.Statement.{statement}
-use Rattle.parts.proofs.all_points.Tie as tie
+use Rattle.points.proofs.all.Statement.{statement}
+use Rattle.points.proofs.all.Tie as tie
 
 high-cut : (n : ℕ) → n ≤ 64 → (2 ^ 64 - 1) / 2 ^ (64 - n) ≡ 2 ^ n - 1
 high-cut n h =
@@ -24,5 +24,5 @@ shr-result c = search needs
 returns : tie.Need-returns
 returns c = high-cut (c .args .points) (c .pre .1)
 
-pub all-points-spec : {M : Type 1} → statement M
-all-points-spec = tie.close (tie.spec sub-result shr-result returns)
+pub all-spec : {M : Type 1} → statement M
+all-spec = tie.close (tie.spec sub-result shr-result returns)

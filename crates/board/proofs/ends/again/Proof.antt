@@ -1,0 +1,17 @@
+-- `again` meets its contract: the shifted 1 is a power of two that fits.
+-- Nothing else is to be shown.
+use mathlib.Core.Path.{ap}
+use borrow.Author.Needs.{needs}
+use lib.Bits.{bitOr, bitAnd}
+use Rattle.points.proofs.BitLaws.{shifted-one}
+use Rattle.board.proofs.ends.again.Statement.{statement}
+use Rattle.board.proofs.ends.again.Tie as tie
+
+shl-result : tie.Need-shl-result
+shl-result c = search needs
+
+returns : tie.Need-returns
+returns c = ap (λ x. bitOr (c .args .twice) (bitAnd (c .args .once) x)) (shifted-one (c .args .p) (c .pre))
+
+pub again-spec : {M : Type 1} → statement M
+again-spec = tie.close (tie.spec shl-result returns)

@@ -1,0 +1,90 @@
+-- `refusal` is rows 6 and 7: the first of them that holds.
+-- The invariant: no zone before z is bad, the table has their carriers, and it is known whether one of them stood before.
+use Prim.Native.Nat.{_-_}
+use mathlib.Core.Logic.{⊎-elim}
+use mathlib.Core.Path.{_≡_, refl, sym, _∙_}
+use native.Mathlib.Omega.{arith}
+use Rattle.model.specs.Lists.{any, below}
+use Rattle.model.specs.Reading.{badZone, repeated as Reading·repeated}
+use Rattle.board.proofs.Turns.{NoneYet, none-first, none-next, met, none-met, all-met}
+use Rattle.board.proofs.Repeats.{Seen, seen-first, seen-free, seen-held, again-free, again-new, again-met}
+use Rattle.board.proofs.Order.{row-6, row-7, neither-6-7}
+use Rattle.board.proofs.zones.refusal.Statement.{statement}
+use Rattle.board.proofs.zones.refusal.Tie as tie
+
+abbrev Inv-loop : tie.InvT-loop
+Inv-loop bytes zones seen₀ repeated₀ z₀ seen repeated z = NoneYet (badZone bytes) zones z × Seen bytes seen z × (repeated ≡ any (Reading·repeated bytes) (below z))
+
+abbrev μ-loop : tie.MeasureT-loop
+μ-loop bytes zones seen₀ repeated₀ z₀ seen repeated z = zones - z
+
+byte-requires : tie.Need-byte-requires Inv-loop μ-loop
+byte-requires c κs = omega (arith, c .before .pre)
+
+loop-holds : tie.Need-loop-holds Inv-loop μ-loop
+loop-holds c = (none-first _ _, seen-first _, refl)
+
+bad-requires : tie.Need-bad-requires Inv-loop μ-loop
+bad-requires c κs = (omega (arith, c .before .before .byte .ensures .small, c .loop-test .taken), omega (arith, c .before .before .before .before .pre, c .before .before .byte .ensures .is, c .loop-test .taken))
+
+returns : tie.Need-returns Inv-loop μ-loop
+returns c = row-6 _ (met (badZone _) (c .before .before .before .before .byte .ensures) (c .before .before .loop-test .taken) (sym (c .before .bad .ensures) ∙ c .if1 .taken))
+
+mul-byte : tie.Need-mul-byte Inv-loop μ-loop
+mul-byte c = omega arith
+
+add-byte : tie.Need-add-byte Inv-loop μ-loop
+add-byte c = omega arith
+
+byte-requires-2 : tie.Need-byte-requires-2 Inv-loop μ-loop
+byte-requires-2 c κs = omega (arith, c .before .before .before .before .before .before .pre, c .before .before .before .before .byte .ensures .is, c .before .before .loop-test .taken)
+
+add-z : tie.Need-add-z Inv-loop μ-loop
+add-z c = omega arith
+
+loop-less : tie.Need-loop-less Inv-loop μ-loop
+loop-less c = omega arith
+
+loop-again : tie.Need-loop-again Inv-loop μ-loop
+loop-again c = (none-next (badZone _) (c .before .before .before .before .before .loop .inv .0) (c .before .before .before .before .loop-test .taken) (sym (c .before .before .before .bad .ensures) ∙ c .before .before .if1 .left), seen-free (c .before .before .before .before .before .loop .inv .1) (c .before .byte2 .ensures) (c .if2 .taken), again-free (c .before .before .before .before .before .loop .inv .1) (c .before .byte2 .ensures) (c .before .before .before .before .before .loop .inv .2) (c .if2 .taken))
+
+array-read-if3 : tie.Need-array-read-if3 Inv-loop μ-loop
+array-read-if3 c = c .before .byte2 .ensures .small
+
+array-write-seen : tie.Need-array-write-seen Inv-loop μ-loop
+array-write-seen c = c .before .before .byte2 .ensures .small
+
+loop-less-2 : tie.Need-loop-less-2 Inv-loop μ-loop
+loop-less-2 c = omega arith
+
+loop-again-2 : tie.Need-loop-again-2 Inv-loop μ-loop
+loop-again-2 c = (none-next (badZone _) (c .before .before .before .before .before .before .loop .inv .0) (c .before .before .before .before .before .loop-test .taken) (sym (c .before .before .before .before .bad .ensures) ∙ c .before .before .before .if1 .left), seen-held (c .before .before .before .before .before .before .loop .inv .1) (c .before .before .byte2 .ensures), ⊎-elim (λ k. k .1 ∙ again-met (c .before .before .before .before .before .before .loop .inv .1) (c .before .before .byte2 .ensures) (c .before .if2 .left) (k .0 .taken)) (λ k. k .1 ∙ again-new (c .before .before .before .before .before .before .loop .inv .1) (c .before .before .byte2 .ensures) (c .before .before .before .before .before .before .loop .inv .2) (c .before .if2 .left) (k .0 .left)) (c .if3 .came))
+
+returns-2 : tie.Need-returns-2 Inv-loop μ-loop
+returns-2 c = row-7 _ (none-met (badZone _) (c .before .before .before .byte .ensures) (c .before .before .loop .inv .0) (c .before .loop-test .left)) (sym (c .if4 .taken) ∙ all-met _ (c .before .before .before .byte .ensures) (c .before .before .loop .inv .0 .within) (c .before .loop-test .left) (c .before .before .loop .inv .2))
+
+returns-3 : tie.Need-returns-3 Inv-loop μ-loop
+returns-3 c = neither-6-7 _ (none-met (badZone _) (c .before .before .before .byte .ensures) (c .before .before .loop .inv .0) (c .before .loop-test .left)) (sym (c .if4 .left) ∙ all-met _ (c .before .before .before .byte .ensures) (c .before .before .loop .inv .0 .within) (c .before .loop-test .left) (c .before .before .loop .inv .2))
+
+pub refusal-spec : {M : Type 1} → statement M
+refusal-spec =
+    tie.close
+    (tie.spec
+    Inv-loop
+    μ-loop
+    byte-requires
+    loop-holds
+    bad-requires
+    returns
+    mul-byte
+    add-byte
+    byte-requires-2
+    add-z
+    loop-less
+    loop-again
+    array-read-if3
+    array-write-seen
+    loop-less-2
+    loop-again-2
+    returns-2
+    returns-3)

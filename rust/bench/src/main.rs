@@ -8,15 +8,23 @@ use second::{Board, Zone};
 use std::hint::black_box;
 use std::time::Instant;
 
-/// Nanoseconds a call: the least of several rounds over the boards.
-fn time(rounds: usize, boards: usize, mut all: impl FnMut()) -> f64 {
-    let mut best = f64::MAX;
+/// Nanoseconds a call in each round, for each of several programs. In each round every program has its turn, so that a machine that slows
+/// down for a while slows down all of them.
+fn times<const N: usize>(rounds: usize, calls: usize, mut programs: [&mut dyn FnMut(); N]) -> [Vec<f64>; N] {
+    let mut times = [const { Vec::new() }; N];
     for _ in 0..rounds {
-        let began = Instant::now();
-        all();
-        best = best.min(began.elapsed().as_nanos() as f64 / boards as f64);
+        for (program, times) in programs.iter_mut().zip(&mut times) {
+            let began = Instant::now();
+            program();
+            times.push(began.elapsed().as_nanos() as f64 / calls as f64);
+        }
     }
-    best
+    times
+}
+
+fn median(mut numbers: Vec<f64>) -> f64 {
+    numbers.sort_by(f64::total_cmp);
+    numbers[numbers.len() / 2]
 }
 
 /// A long held exit whose carriers have the highest numbers, the nearest home the highest of all, and a free loop with a low-numbered
@@ -63,33 +71,42 @@ fn group(name: &str, boards: Vec<Board>, rounds: usize) {
     for (b, sheet) in bytes.iter().zip(&sheets) {
         agree(b, sheet);
     }
-    let key = time(rounds, n, || bytes.iter().for_each(|b| { black_box(nizkabel::key(black_box(b), &mut plan, &mut list)); }));
-    let key_port = time(rounds, n, || bytes.iter().for_each(|b| { black_box(port::key(black_box(b), &mut plan, &mut list, false)); }));
-    let key_scan = time(rounds, n, || bytes.iter().for_each(|b| { black_box(port::key(black_box(b), &mut plan, &mut list, true)); }));
+    let (mut plan2, mut list2, mut plan3, mut list3) = (plan.clone(), list.clone(), plan.clone(), list.clone());
+    let [key, key_port, key_scan] = times(rounds, n, [
+        &mut || bytes.iter().for_each(|b| { black_box(nizkabel::key(black_box(b), &mut plan, &mut list)); }),
+        &mut || bytes.iter().for_each(|b| { black_box(port::key(black_box(b), &mut plan2, &mut list2, false)); }),
+        &mut || bytes.iter().for_each(|b| { black_box(port::key(black_box(b), &mut plan3, &mut list3, true)); }),
+    ]);
     let few = &bytes[..n.min(4)];
-    let key_second = time(1, few.len(), || few.iter().for_each(|b| { black_box(second::key(black_box(b), 96 * 194, 96)); }));
-    row(name, "key", key, &[("port", key_port), ("scan", key_scan), ("second", key_second)]);
-    let collapse = time(rounds, n, || bytes.iter().for_each(|b| { black_box(nizkabel::collapse(black_box(b), &mut list)); }));
-    let collapse_port = time(rounds, n, || bytes.iter().for_each(|b| { black_box(port::collapse(black_box(b), &mut list)); }));
-    let collapse_second = time(2, n, || bytes.iter().for_each(|b| { black_box(second::collapse(black_box(b), 96)); }));
-    row(name, "collapse", collapse, &[("port", collapse_port), ("second", collapse_second)]);
+    let [key_second] = times(1, few.len(), [&mut || few.iter().for_each(|b| { black_box(second::key(black_box(b), 96 * 194, 96)); })]);
+    row(name, "key", &key, &[("port", &key_port), ("scan", &key_scan), ("second", &key_second)]);
+    let [collapse, collapse_port] = times(rounds, n, [
+        &mut || bytes.iter().for_each(|b| { black_box(nizkabel::collapse(black_box(b), &mut list)); }),
+        &mut || bytes.iter().for_each(|b| { black_box(port::collapse(black_box(b), &mut list2)); }),
+    ]);
+    let [collapse_second] = times(2, n, [&mut || bytes.iter().for_each(|b| { black_box(second::collapse(black_box(b), 96)); })]);
+    row(name, "collapse", &collapse, &[("port", &collapse_port), ("second", &collapse_second)]);
     let pairs: Vec<(&Vec<u8>, &Vec<u16>)> = bytes.iter().zip(&sheets).collect();
-    let mark = time(rounds, n, || pairs.iter().for_each(|(b, s)| { black_box(nizkabel::mark(black_box(b), s)); }));
-    let mark_port = time(rounds, n, || pairs.iter().for_each(|(b, s)| { black_box(port::mark(black_box(b), s)); }));
-    let mark_second = time(2, n, || pairs.iter().for_each(|(b, s)| { black_box(second::mark(black_box(b), s)); }));
-    row(name, "mark", mark, &[("port", mark_port), ("second", mark_second)]);
+    let [mark, mark_port] = times(rounds, n, [
+        &mut || pairs.iter().for_each(|(b, s)| { black_box(nizkabel::mark(black_box(b), s)); }),
+        &mut || pairs.iter().for_each(|(b, s)| { black_box(port::mark(black_box(b), s)); }),
+    ]);
+    let [mark_second] = times(2, n, [&mut || pairs.iter().for_each(|(b, s)| { black_box(second::mark(black_box(b), s)); })]);
+    row(name, "mark", &mark, &[("port", &mark_port), ("second", &mark_second)]);
 }
 
-fn row(name: &str, what: &str, ours: f64, others: &[(&str, f64)]) {
-    let ratios: Vec<String> = others.iter().map(|(who, t)| format!("{who} {:.3}", ours / t)).collect();
-    println!("{name:<8} {what:<9} {ours:>10.0} ns   {}", ratios.join("   "));
+/// One line: the median time, and the median over the rounds of its ratio to each other program's time in the same round.
+fn row(name: &str, what: &str, ours: &[f64], others: &[(&str, &[f64])]) {
+    let ratio = |others: &[f64]| median(ours.iter().zip(others).map(|(a, b)| a / b).collect());
+    let ratios: Vec<String> = others.iter().map(|(who, times)| format!("{who} {:.3}", ratio(times))).collect();
+    println!("{name:<8} {what:<9} {:>10.0} ns   {}", median(ours.to_vec()), ratios.join("   "));
 }
 
 fn main() {
     let mut random = Random::new(7);
     println!("ratios of the proved library's time to each other one's");
-    group("small", (0..2000).map(|_| boards::accepted(&mut random, 4, 6, 3)).collect(), 20);
-    group("large", (0..60).map(|_| boards::accepted(&mut random, 40, 90, 4)).filter(|b| b.zones.len() <= 96).collect(), 20);
-    group("full", (0..60).map(|_| boards::accepted(&mut random, 40, 90, 1)).filter(|b| b.zones.len() <= 96).collect(), 20);
-    group("worst", vec![worst()], 200);
+    group("small", (0..2000).map(|_| boards::accepted(&mut random, 4, 6, 3)).collect(), 100);
+    group("large", (0..60).map(|_| boards::accepted(&mut random, 40, 90, 4)).filter(|b| b.zones.len() <= 96).collect(), 100);
+    group("full", (0..60).map(|_| boards::accepted(&mut random, 40, 90, 1)).filter(|b| b.zones.len() <= 96).collect(), 100);
+    group("worst", (0..20).map(|_| worst()).collect(), 40);
 }

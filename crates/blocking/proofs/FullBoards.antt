@@ -75,7 +75,7 @@ module _ {t : Track} {p : Position} (laid : Laid t p) {H : ℕ → Type 0} (clos
     kept-allowed : {m : Move} {r : Position} → Allowed t q m r → Kept t p H r
     kept-allowed (enters {c = c} {w = w} u s h free touches) =
         record {
-          laid-now = moved-laid t q (kept .laid-now) c u w s free h;
+          laid-now = moved-laid t q (kept .laid-now) c u w s h;
           as-first = λ x hx out.
               getD-set-other (retire c q) (zoneOf w) (zoneOf x) (2 * c + headingOf w) 0 (λ z. free-inside x hx (ap (at q) z ∙ free) out)
               ∙ taken-off s (λ far. free-inside w h free (λ i. far (subst H touches i))) x hx out;

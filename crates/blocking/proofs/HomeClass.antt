@@ -9,9 +9,8 @@ use Rattle.model.specs.Position.{Position, isFree, Stands}
 use Rattle.model.specs.Labels.{label}
 use Rattle.model.specs.Accepted.{Laid}
 use Rattle.model.proofs.WordLaws.{zone-below, rev-below}
-use Rattle.model.proofs.PositionLaws.{stands-word, stands-below}
+use Rattle.model.proofs.PositionLaws.{stands-word, stands-below, stands-not-free}
 use Rattle.rules.specs.Collapse.{standing, joined, mergeAll}
-use Rattle.blocking.proofs.Standings.{stands-not-free}
 use Rattle.blocking.proofs.HomeSet.{Closed, HomeSet}
 use Rattle.blocking.proofs.Joining.{free-joined, turning-joined}
 use Rattle.blocking.proofs.Merging.{marked, sound-all, keeps-all, alike-leads}

@@ -14,10 +14,10 @@ use Rattle.rules.specs.Routes.{Step, Onward, arrives, goes, Route, route}
 use Rattle.rules.specs.Tries.{CanGo}
 use Rattle.rules.specs.Collapse.{freeParts, loopIn, turns, standing}
 use Rattle.model.proofs.WordLaws.{zone-rev, rev-below, zone-below, leave-rev, same-zone}
-use Rattle.model.proofs.PositionLaws.{stands-carrier, stands-below, laid-stands}
+use Rattle.model.proofs.PositionLaws.{stands-carrier, stands-below, stands-not-free, laid-stands}
 use Rattle.order.proofs.Within.{Within, stands-before}
 use Rattle.turning.specs.Walks.{Apart, Walk, stay, go}
-use Rattle.blocking.proofs.Standings.{stands-not-free, standing-zone, held-stands}
+use Rattle.blocking.proofs.Standings.{standing-zone, held-stands}
 use Rattle.blocking.proofs.HomeSet.{Closed}
 use Rattle.blocking.proofs.Loops.{turns-loop, no-loop-stays}
 

@@ -13,14 +13,14 @@ use Rattle.rules.specs.Routes.{Step, goes, route}
 use Rattle.rules.specs.Tries.{NoneCanGo}
 use Rattle.rules.specs.Collapse.{freeParts, loopIn, turns, standing}
 use Rattle.model.proofs.WordLaws.{zone-rev, rev-below, zone-below, leave-rev, same-zone}
-use Rattle.model.proofs.PositionLaws.{stands-carrier, stands-below}
+use Rattle.model.proofs.PositionLaws.{stands-carrier, stands-below, stands-not-free}
 use Rattle.order.proofs.Within.{Within, stands-before}
 use Rattle.turning.specs.Walks.{Walk}
-use Rattle.turning.proofs.WalkLaws.{widen, walk-of-linked}
-use Rattle.blocking.proofs.Standings.{stands-not-free, standing-zone, within-free, still-stands, held-stands}
+use Rattle.turning.proofs.WalkLaws.{apart-outside, widen, walk-of-linked}
+use Rattle.blocking.proofs.Standings.{standing-zone, within-free, still-stands, held-stands}
 use Rattle.blocking.proofs.HomeSet.{Closed, HomeSet}
 use Rattle.blocking.proofs.Loops.{turns-loop, loop-turns}
-use Rattle.blocking.proofs.Onwards.{apart-outside, along-some, walk-home, Homeward}
+use Rattle.blocking.proofs.Onwards.{along-some, walk-home, Homeward}
 
 module _ {t : Track} {p q : Position} (laid : Laid t p) (within : Within q p) (none : NoneCanGo t q) where
   -- joined to home over free zones of q

@@ -14,9 +14,9 @@ use Rattle.model.proofs.BoolLaws.{both-ways, not-true-false, and-left, and-righ
 use Rattle.model.proofs.ListLaws.{mem-below, below-mem, mem-keep, keep-mem}
 use Rattle.model.proofs.AscendingLaws.{mem-ascending, ascending-mem, NoRepeats, ascending-strict, keep-ascending, below-ascending, ascending-no-repeats}
 use Rattle.model.proofs.WordLaws.{zone-below}
-use Rattle.model.proofs.PositionLaws.{stands-carrier, stands-word, stands-below, laid-stands}
+use Rattle.model.proofs.PositionLaws.{stands-carrier, stands-word, stands-below, stands-not-free, laid-stands}
 use Rattle.rules.specs.Collapse.{standing, mergeAll, left}
-use Rattle.blocking.proofs.Standings.{stands-not-free, standing-zone}
+use Rattle.blocking.proofs.Standings.{standing-zone}
 use Rattle.blocking.proofs.Merging.{marked}
 use Rattle.blocking.proofs.HomeClass.{InHome, marked-leaves}
 

@@ -16,12 +16,12 @@ use Rattle.model.specs.Accepted.{Laid}
 use Rattle.rules.specs.Collapse.{freeParts, loopIn, turns, standing}
 use Rattle.model.proofs.BoolLaws.{same-test}
 use Rattle.model.proofs.CountLaws.{count-below-ext}
-use Rattle.model.proofs.PositionLaws.{stands-word}
+use Rattle.model.proofs.PositionLaws.{stands-word, stands-not-free}
 use Rattle.model.proofs.LinkLaws.{linked-mono}
 use Rattle.model.proofs.LabelLaws.{parts-linked, linked-parts}
 use Rattle.turning.specs.Walks.{Walk}
 use Rattle.turning.proofs.Turning.{turns-with-loop, no-turn-without}
-use Rattle.blocking.proofs.Standings.{free-number, number-free, stands-not-free}
+use Rattle.blocking.proofs.Standings.{free-number, number-free}
 
 -- a carrier turns where the part that it heads into holds a loop
 pub turns-loop : (t : Track) (ls : List ℕ) {p : Position} {c w : ℕ} → Stands p c w → turns t p ls (zoneOf w) ≡ loopIn t p ls (label ls (leave t w))

@@ -4,20 +4,12 @@ use Prim.Native.Nat.{ℕ, _*_, _<_}
 use mathlib.Core.List.{List, [], _∷_}
 use mathlib.Core.Path.{_≡_, refl, sym, _∙_}
 use mathlib.Core.Logic.{inl}
-use mathlib.Core.Bool.{Bool, true, false, true≢false}
+use mathlib.Core.Bool.{true}
 use Rattle.model.specs.Track.{Track, zoneOf, start, leave}
 use Rattle.model.specs.Position.{Position, isFree}
 use Rattle.rules.specs.Routes.{Step, Onward, arrives, goes}
 use Rattle.turning.specs.Walks.{Apart, Walk, stay, go}
 use Rattle.blocking.proofs.Standings.{free-number}
-
--- a word of a zone that does not pass stands apart from every walk
-pub apart-outside : {t : Track} {passes : ℕ → Bool} {u v : ℕ} {ws : List ℕ} (w : ℕ) → passes (zoneOf w) ≡ false → Walk t passes u ws v → Apart w ws
-apart-outside w e stay = tt
-apart-outside {passes = passes} w e (go x h f s a k) = λ q. true≢false (sym f ∙ ap-zone q ∙ e)
-  where
-    ap-zone : zoneOf x ≡ zoneOf w → passes (zoneOf x) ≡ passes (zoneOf w)
-    ap-zone q = λ i. passes (q i)
 
 module _ (t : Track) (q : Position) (c : ℕ) where
   -- from word w on, some words lead home

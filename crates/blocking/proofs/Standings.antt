@@ -5,11 +5,11 @@ use mathlib.Core.Path.{_≡_, refl, sym, _∙_, ap, subst}
 use mathlib.Core.Logic.{_⊎_, inl, inr}
 use mathlib.Core.Bool.{Bool, true, false, true≢false}
 use native.Mathlib.Omega.{arith}
-use borrow.Author.Tests.{eqb-true, eqb-false, eq-eqb, ne-eqb}
+use borrow.Author.Tests.{eqb-true, eqb-false, eq-eqb}
 use Rattle.model.specs.Track.{Track, zoneOf, headingOf}
 use Rattle.model.specs.Position.{Position, at, carrierOf, isFree, Stands}
 use Rattle.model.specs.Accepted.{Laid}
-use Rattle.model.proofs.PositionLaws.{stands-held, laid-stands}
+use Rattle.model.proofs.PositionLaws.{laid-stands}
 use Rattle.rules.specs.Collapse.{standing}
 use Rattle.order.proofs.Within.{Within}
 
@@ -18,10 +18,6 @@ free-number p z e = eqb-true (at p z) 0 e
 
 pub number-free : (p : Position) (z : ℕ) → at p z ≡ 0 → isFree p z ≡ true
 number-free p z e = eq-eqb (at p z) 0 e
-
--- a zone where a carrier stands is not free
-pub stands-not-free : {p : Position} {c w : ℕ} → Stands p c w → isFree p (zoneOf w) ≡ false
-stands-not-free {p} {c} {w} s = ne-eqb (at p (zoneOf w)) 0 (stands-held s)
 
 pub standing-zone : (t : Track) (p : Position) (z : ℕ) → zoneOf (standing t p z) ≡ z
 standing-zone t p z = omega arith

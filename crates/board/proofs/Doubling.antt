@@ -12,12 +12,12 @@ use lib.Pow.{ones-lt, pow-mono}
 use lib.Dec.{leb, eqb}
 use borrow.Author.Tests.{le-leb, lt-leb, leb-true, leb-false}
 use Rattle.model.specs.Lists.{below, consIf, count, any}
-use Rattle.model.specs.Reading.{thin, trackSaid, zonesSaid, homeSaid, pointsSaid}
+use Rattle.model.specs.Reading.{underTwo, trackSaid, zonesSaid, homeSaid, pointsSaid}
 use Rattle.model.proofs.ListLaws.{count-append, below-any, below-any-false}
 use Rattle.points.specs.Sets.{hasBit, less, Lowest}
 use Rattle.points.proofs.BitLaws.{bit-none, bit-all, bit-or, bit-and, bit-alone, bit-with, bit-less, alone-word, less-word, less-in, point-below}
 use Rattle.points.proofs.LowestLaws.{trailing-lowest}
-use Rattle.board.specs.Tables.{ByteAt, endSaid, startsAt, Inside, Doubled}
+use Rattle.board.specs.Inner.{ByteAt, endSaid, startsAt, Inside, Doubled}
 use Rattle.board.proofs.Filling.{map-next, first-end, second-end}
 use Rattle.board.proofs.Rows.{ltb-is}
 
@@ -101,8 +101,8 @@ home-small {b} {h} I H =
 
 -- the points of row 8: all but home and those with two zones or more
 module _ {b : List ℕ} {p h twice : ℕ} (I : Inside b) (D : Doubled b twice) (fits : twice < 2 ^ 64) (P : ByteAt b 3 p) (H : ByteAt b 4 h) where
-  abbrev thinSet : ℕ
-  thinSet = less (2 ^ p - 1) (bitOr twice (2 ^ h))
+  abbrev underTwoSet : ℕ
+  underTwoSet = less (2 ^ p - 1) (bitOr twice (2 ^ h))
 
   all-word : 2 ^ p - 1 < 2 ^ 64
   all-word = lt-of-lt-of-le (ones-lt p) (pow-mono (some-points I P .1))
@@ -110,9 +110,9 @@ module _ {b : List ℕ} {p h twice : ℕ} (I : Inside b) (D : Doubled b twice) (
   rest-word : bitOr twice (2 ^ h) < 2 ^ 64
   rest-word = or-lt 64 twice (2 ^ h) fits (alone-word h (home-small I H))
 
-  thin-bit : (q : ℕ) → q < p → thin b q ≡ hasBit thinSet q
-  unfolding thin trackSaid
-  thin-bit q l =
+  under-two-bit : (q : ℕ) → q < p → underTwo b q ≡ hasBit underTwoSet q
+  unfolding underTwo trackSaid
+  under-two-bit q l =
       ap₂ (λ (x : ℕ) (t : Bool). not (eqb q x) && t) (sym (H .is)) (ltb-is (startsAt b (2 * zonesSaid b) q) 2 ∙ ap not (sym (D .holds q (let m : p ≤ 64 = some-points I P .1 in omega arith)))) ∙
       flip (hasBit twice q) (eqb q h) ∙
       sym (bit-less (2 ^ p - 1) (bitOr twice (2 ^ h)) q all-word rest-word ∙ ap₂ (λ (s t : Bool). s && not t) (bit-all p q l) (bit-with twice h q))
@@ -123,24 +123,24 @@ module _ {b : List ℕ} {p h twice : ℕ} (I : Inside b) (D : Doubled b twice) (
       flip false true = refl
       flip false false = refl
 
-  none-thin : thinSet ≡ 0 → any (thin b) (below (pointsSaid b)) ≡ false
-  none-thin e = below-any-false (thin b) (pointsSaid b) (λ q l. thin-bit q (let s : p ≡ pointsSaid b = P .is in let k : q < p = omega arith in k) ∙ ap (λ (s : ℕ). hasBit s q) e ∙ bit-none q)
+  none-under-two : underTwoSet ≡ 0 → any (underTwo b) (below (pointsSaid b)) ≡ false
+  none-under-two e = below-any-false (underTwo b) (pointsSaid b) (λ q l. under-two-bit q (let s : p ≡ pointsSaid b = P .is in let k : q < p = omega arith in k) ∙ ap (λ (s : ℕ). hasBit s q) e ∙ bit-none q)
 
-  some-thin : (thinSet ≡ 0 → ⊥) → any (thin b) (below (pointsSaid b)) ≡ true
-  some-thin n = at _ (trailing-lowest thinSet (let k : 0 < thinSet = omega arith in k) (less-word (2 ^ p - 1) (bitOr twice (2 ^ h)) all-word))
+  some-under-two : (underTwoSet ≡ 0 → ⊥) → any (underTwo b) (below (pointsSaid b)) ≡ true
+  some-under-two n = at _ (trailing-lowest underTwoSet (let k : 0 < underTwoSet = omega arith in k) (less-word (2 ^ p - 1) (bitOr twice (2 ^ h)) all-word))
     where
-      at : (q : ℕ) → Lowest thinSet q → any (thin b) (below (pointsSaid b)) ≡ true
+      at : (q : ℕ) → Lowest underTwoSet q → any (underTwo b) (below (pointsSaid b)) ≡ true
       at q low =
           let l : q < p = point-below p (2 ^ p - 1) q (ones-lt p) (less-in (2 ^ p - 1) (bitOr twice (2 ^ h)) q all-word rest-word (low .there)) in
-          below-any (thin b) (pointsSaid b) q (let s : p ≡ pointsSaid b = P .is in let k : q < pointsSaid b = omega arith in k) (thin-bit q l ∙ low .there)
+          below-any (underTwo b) (pointsSaid b) q (let s : p ≡ pointsSaid b = P .is in let k : q < pointsSaid b = omega arith in k) (under-two-bit q l ∙ low .there)
 
   -- the code's set is that one
   module _ {a r s : ℕ} (A : a ≡ 2 ^ p - 1) (R : r ≡ bitOr twice (2 ^ h)) (S : s ≡ less a r) where
-    same : s ≡ thinSet
+    same : s ≡ underTwoSet
     same = S ∙ ap₂ less A R
 
-    pub thin-none : s ≡ 0 → any (thin b) (below (pointsSaid b)) ≡ false
-    thin-none e = none-thin (sym same ∙ e)
+    pub under-two-none : s ≡ 0 → any (underTwo b) (below (pointsSaid b)) ≡ false
+    under-two-none e = none-under-two (sym same ∙ e)
 
-    pub thin-some : (s ≡ 0 → ⊥) → any (thin b) (below (pointsSaid b)) ≡ true
-    thin-some n = some-thin (λ e. n (same ∙ e))
+    pub under-two-some : (s ≡ 0 → ⊥) → any (underTwo b) (below (pointsSaid b)) ≡ true
+    under-two-some n = some-under-two (λ e. n (same ∙ e))

@@ -11,7 +11,7 @@ use Rattle.model.specs.Lists.{below}
 use Rattle.model.specs.Reading.{byte, trackSaid, positionSaid, zonesSaid, carrierIn, headingIn}
 use Rattle.model.proofs.ListLaws.{length-below, below-suc}
 use Rattle.board.specs.Given.{padded}
-use Rattle.board.specs.Tables.{ByteAt, endSaid}
+use Rattle.board.specs.Inner.{ByteAt, endSaid}
 
 -- n places: f of each of the first w, then zeros
 abbrev pub filled : ℕ → (ℕ → ℕ) → ℕ → List ℕ
@@ -53,6 +53,9 @@ unfolding positionSaid
 position-filled b = padded-is 96 (heldSaid b) (zonesSaid b)
 
 -- a turn of the loop, and its end
+
+pub few-zones : {b : List ℕ} {n z : ℕ} → zonesSaid b ≤ 96 → ByteAt b 5 n → z < n → z < 96
+few-zones {b} {n} {z} few N l = let s : n ≡ zonesSaid b = N .is in omega arith
 
 -- both arrays keep their length
 module _ {b : List ℕ} {n z : ℕ} (few : zonesSaid b ≤ 96) (N : ByteAt b 5 n) (l : z ≤ n) where

@@ -1,34 +1,22 @@
--- What the reader gives: how `read` meets it, and what whoever calls `read` knows of a board with number 0.
--- A list made long enough by zeros reads as the list itself at every place, and is the list again where it is cut.
-use Prim.Native.Nat.{ℕ, zero, suc, _+_, _-_, _*_, _≤_}
+-- What the reader gives: how `read_into` meets it, and what its callers know of a board with number 0.
+-- A list made long enough by zeros is the list again where it is cut.
+use Prim.Native.Nat.{ℕ, _+_, _-_, _*_, _≤_}
 use native.Mathlib.Omega.{arith}
-use mathlib.Core.List.{List, [], _∷_, _++_}
+use mathlib.Core.List.{List, _++_}
 use mathlib.Core.Path.{_≡_, refl, sym, _∙_, ap, subst}
 use mathlib.Core.Bool.{Bool, true, false, cond}
-use lib.ListN.{length, getD, take, replicate, length-append, length-replicate}
+use lib.ListN.{length, take, replicate, length-append, length-replicate}
 use lib.Seq.{take-append-seam}
 use lib.Dec.{eqb}
 use borrow.Author.Tests.{eq-eqb, ne-eqb, eqb-true}
-use Rattle.model.specs.Track.{start}
-use Rattle.model.specs.Position.{at}
 use Rattle.model.specs.Reading.{zonesSaid, trackSaid, positionSaid, refusal}
-use Rattle.model.proofs.ListLaws.{getD-zeros}
 use Rattle.model.proofs.ReadingLaws.{no-row, in-range, length-ends, length-position}
 use Rattle.board.proofs.Order.{whole}
 use Rattle.board.specs.declared.Board.{Board}
 use Rattle.board.specs.Given.{padded, boardSaid, boardRefused, boardOf}
-use Rattle.board.specs.Tables.{ByteAt, Whole}
+use Rattle.board.specs.Inner.{ByteAt, Whole}
 
 -- lists made longer by zeros
-
-getD-before-zeros : (l : List ℕ) (k i : ℕ) → getD (l ++ replicate k 0) i 0 ≡ getD l i 0
-getD-before-zeros [] k i = getD-zeros k i
-getD-before-zeros (a ∷ l) k zero = refl
-getD-before-zeros (a ∷ l) k (suc i) = getD-before-zeros l k i
-
-pub getD-padded : (n : ℕ) (l : List ℕ) (i : ℕ) → getD (padded n l) i 0 ≡ getD l i 0
-unfolding padded
-getD-padded n l i = getD-before-zeros l (n - length l) i
 
 pub take-padded : (n k : ℕ) (l : List ℕ) → length l ≡ k → take k (padded n l) ≡ l
 unfolding padded
@@ -64,7 +52,7 @@ module _ (b : List ℕ) {n : ℕ} (N : n ≡ refusal b) where
   refused-is k E S = (λ i. record { number = N i; points = 0; home = 0; zones = 0; ends = E i; position = S i }) ∙ sym (given-refused b (λ e. k (N ∙ e)))
 
   pub few-zones : n ≡ 0 → zonesSaid b ≤ 96
-  few-zones e = in-range b (no-row b (sym N ∙ e)) .zones-most
+  few-zones e = in-range b (no-row b (sym N ∙ e) .range) .zones-most
 
   pub whole-read : n ≡ 0 → Whole b
   whole-read e = let r = no-row b (sym N ∙ e) in whole b (r .length-said) (r .zone-count)
@@ -73,7 +61,7 @@ module _ (b : List ℕ) {n : ℕ} (N : n ≡ refusal b) where
   unfolding boardSaid
   said-is k P H Z E S = (λ i. record { number = 0; points = P .is i; home = H .is i; zones = Z .is i; ends = E i; position = S i }) ∙ sym (given-said b (sym N ∙ k))
 
--- what a caller of `read` knows: the struct holds the track and the position that the bytes say
+-- what a caller of the reader knows: the struct holds the track and the position that the bytes say
 pub record Said (b : List ℕ) (r : Board) : Type 0 where
   pub none : refusal b ≡ 0
   pub points : r .points ≡ trackSaid b .points
@@ -81,15 +69,13 @@ pub record Said (b : List ℕ) (r : Board) : Type 0 where
   pub zones : r .zones ≡ trackSaid b .zones
   pub ends-size : length (r .ends) ≡ 192
   pub ends : take (2 * r .zones) (r .ends) ≡ trackSaid b .ends
-  pub end-at : (w : ℕ) → getD (r .ends) w 0 ≡ start (trackSaid b) w
   pub position-size : length (r .position) ≡ 96
   pub position : take (r .zones) (r .position) ≡ positionSaid b
-  pub held-at : (z : ℕ) → getD (r .position) z 0 ≡ at (positionSaid b) z
 
 said-board : (b : List ℕ) → refusal b ≡ 0 → Said b (boardSaid b)
 unfolding boardSaid trackSaid
 said-board b e =
-    let m : zonesSaid b ≤ 96 = in-range b (no-row b e) .zones-most in
+    let m : zonesSaid b ≤ 96 = in-range b (no-row b e .range) .zones-most in
     record {
       none = e;
       points = refl;
@@ -97,17 +83,11 @@ said-board b e =
       zones = refl;
       ends-size = length-padded 192 (trackSaid b .ends) (let l : length (trackSaid b .ends) ≡ 2 * zonesSaid b = length-ends b in omega arith);
       ends = take-padded 192 (2 * zonesSaid b) (trackSaid b .ends) (length-ends b);
-      end-at = getD-padded 192 (trackSaid b .ends);
       position-size = length-padded 96 (positionSaid b) (let l : length (positionSaid b) ≡ zonesSaid b = length-position b in omega arith);
       position = take-padded 96 (zonesSaid b) (positionSaid b) (length-position b);
-      held-at = getD-padded 96 (positionSaid b);
     }
 
 pub said : {b : List ℕ} {r : Board} → r ≡ boardOf b → r .number ≡ 0 → Said b r
 said {b} {r} e n =
     let k : refusal b ≡ 0 = sym (given-number b) ∙ ap (λ (s : Board). s .number) (sym e) ∙ n in
     subst (Said b) (sym (e ∙ given-said b k)) (said-board b k)
-
--- on a refusal the number is the row's, and every other field is zero
-pub said-nothing : (b : List ℕ) {r : Board} → r ≡ boardOf b → (r .number ≡ 0 → ⊥) → r ≡ boardRefused (refusal b)
-said-nothing b e n = e ∙ given-refused b (λ k. n (ap (λ (s : Board). s .number) e ∙ given-number b ∙ k))

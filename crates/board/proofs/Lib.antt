@@ -3,6 +3,6 @@ pub mod Turns
 pub mod Filling
 pub mod Repeats
 pub mod Doubling
-pub mod Hanging
+pub mod Together
 pub mod Order
 pub mod GivenLaws

@@ -4,20 +4,16 @@ use Prim.Native.Nat.{ℕ, _+_, _*_, _≤_}
 use native.Mathlib.Omega.{arith}
 use mathlib.Core.List.{List}
 use mathlib.Core.Path.{_≡_, refl, sym, _∙_}
-use mathlib.Core.Bool.{Bool, true, false, not, cond, true≢false}
+use mathlib.Core.Bool.{Bool, true, false, cond}
 use lib.ListN.{length}
-use borrow.Author.Tests.{eqb-true, ltb-false}
+use borrow.Author.Tests.{eqb-true, ltb-false, not-false}
 use Rattle.model.specs.Lists.{below, any}
-use Rattle.model.specs.Reading.{tooShort, wrongLength, wrongVersion, outOfRange, wrongCount, badZone, repeated, thin, apart, refusal, lengthSaid, zonesSaid, pointsSaid}
-use Rattle.board.specs.Tables.{Whole, zoneRefusal, endRefusal}
+use Rattle.model.specs.Reading.{tooShort, wrongLength, wrongVersion, outOfRange, wrongCount, badZone, repeated, underTwo, apart, refusal, lengthSaid, zonesSaid, pointsSaid}
+use Rattle.board.specs.Inner.{Whole, zoneRefusal, linkRefusal}
 
 -- what a function answered is what the definition says
-pub told : {s t v : Bool} → s ≡ t → s ≡ v → t ≡ v
-told e f = sym e ∙ f
-
-not-false : (t : Bool) → not t ≡ false → t ≡ true
-not-false true e = refl
-not-false false e = absurd (true≢false e)
+pub answered : {s t v : Bool} → s ≡ t → s ≡ v → t ≡ v
+answered e f = sym e ∙ f
 
 module _ (b : List ℕ) where
   -- rows 6 and 7, and a number for where neither holds
@@ -46,24 +42,24 @@ module _ (b : List ℕ) where
     row-5 f = sym (simp (a, c, d, e, f))
 
     module _ (f : wrongCount b ≡ false) where
-      later-rows : refusal b ≡ zonesThen (endRefusal b)
-      unfolding refusal endRefusal
+      later-rows : refusal b ≡ zonesThen (linkRefusal b)
+      unfolding refusal linkRefusal
       later-rows = simp (a, c, d, e, f)
 
       pub rows-6-7 : {n : ℕ} → n ≡ zoneRefusal b → (n ≡ 0 → ⊥) → n ≡ refusal b
       unfolding zoneRefusal
       rows-6-7 {n} h k = h ∙ go (any (badZone b) (below (zonesSaid b))) (any (repeated b) (below (zonesSaid b))) (λ z. k (h ∙ z)) ∙ sym later-rows
         where
-          go : (s t : Bool) → (_≡_ {A = ℕ} (cond s 6 (cond t 7 0)) 0 → ⊥) → _≡_ {A = ℕ} (cond s 6 (cond t 7 0)) (cond s 6 (cond t 7 (endRefusal b)))
+          go : (s t : Bool) → (_≡_ {A = ℕ} (cond s 6 (cond t 7 0)) 0 → ⊥) → _≡_ {A = ℕ} (cond s 6 (cond t 7 0)) (cond s 6 (cond t 7 (linkRefusal b)))
           go true t n = refl
           go false true n = refl
           go false false n = absurd (n refl)
 
-      pub rows-8-9 : {m n : ℕ} → m ≡ zoneRefusal b → m ≡ 0 → n ≡ endRefusal b → n ≡ refusal b
+      pub rows-8-9 : {m n : ℕ} → m ≡ zoneRefusal b → m ≡ 0 → n ≡ linkRefusal b → n ≡ refusal b
       unfolding zoneRefusal
       rows-8-9 h k g = g ∙ sym (later-rows ∙ go (any (badZone b) (below (zonesSaid b))) (any (repeated b) (below (zonesSaid b))) (sym h ∙ k))
         where
-          go : (s t : Bool) → _≡_ {A = ℕ} (cond s 6 (cond t 7 0)) 0 → cond s 6 (cond t 7 (endRefusal b)) ≡ endRefusal b
+          go : (s t : Bool) → _≡_ {A = ℕ} (cond s 6 (cond t 7 0)) 0 → cond s 6 (cond t 7 (linkRefusal b)) ≡ linkRefusal b
           go true t n = absurd (omega arith)
           go false true n = absurd (omega arith)
           go false false n = refl
@@ -90,16 +86,16 @@ module _ (b : List ℕ) where
       go false n = refl
 
   -- rows 8 and 9 by their tests
-  pub row-8 : any (thin b) (below (pointsSaid b)) ≡ true → 8 ≡ endRefusal b
-  unfolding endRefusal
+  pub row-8 : any (underTwo b) (below (pointsSaid b)) ≡ true → 8 ≡ linkRefusal b
+  unfolding linkRefusal
   row-8 e = sym (simp e)
 
-  pub row-9 : any (thin b) (below (pointsSaid b)) ≡ false → apart b ≡ true → 9 ≡ endRefusal b
-  unfolding endRefusal
+  pub row-9 : any (underTwo b) (below (pointsSaid b)) ≡ false → apart b ≡ true → 9 ≡ linkRefusal b
+  unfolding linkRefusal
   row-9 e f = sym (simp (e, f))
 
-  pub neither-8-9 : any (thin b) (below (pointsSaid b)) ≡ false → apart b ≡ false → 0 ≡ endRefusal b
-  unfolding endRefusal
+  pub neither-8-9 : any (underTwo b) (below (pointsSaid b)) ≡ false → apart b ≡ false → 0 ≡ linkRefusal b
+  unfolding linkRefusal
   neither-8-9 e f = sym (simp (e, f))
 
   -- what rows 1, 2 and 5 leave

@@ -13,7 +13,7 @@ use borrow.Author.Tests.{ne-eqb, eqb-true, eqb-false}
 use Rattle.model.specs.Lists.{below, any}
 use Rattle.model.specs.Reading.{repeated, carrierIn}
 use Rattle.model.proofs.ListLaws.{any-append, below-any, below-suc}
-use Rattle.board.specs.Tables.{ByteAt}
+use Rattle.board.specs.Inner.{ByteAt}
 
 -- carrier c stands in a zone before z
 abbrev pub stoodBefore : List ℕ → ℕ → ℕ → Bool

@@ -1,4 +1,4 @@
--- Rows 1 to 6 from the bytes that were read: what each way through the tests says of the definition's test.
+-- Rows 2 to 6 from the bytes that were read: what each way through the tests says of the definition's test.
 -- The bytes stand for what the definition reads, and each comparison then decides one of its parts.
 use Prim.Native.Nat.{ℕ, _+_, _*_, _≤_, _<_}
 use mathlib.Core.List.{List}
@@ -8,7 +8,7 @@ use lib.ListN.{length}
 use lib.Dec.{leb, ltb, eqb}
 use borrow.Author.Tests.{lt-ltb, le-ltb, le-leb, lt-leb, eq-eqb, ne-eqb, leb-true, leb-false}
 use Rattle.model.specs.Reading.{wrongLength, wrongVersion, outOfRange, wrongCount, badZone}
-use Rattle.board.specs.Tables.{ByteAt}
+use Rattle.board.specs.Inner.{ByteAt}
 
 pub ltb-is : (m n : ℕ) → ltb m n ≡ not (leb n m)
 ltb-is m n = go (leb n m) refl

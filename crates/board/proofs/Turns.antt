@@ -1,4 +1,4 @@
--- Loops that look for a first number that passes a test: what holds at each turn, and what is known when they stop.
+-- A loop over the numbers below a byte that stops at the first that passes a test: what holds before each, and what is known at its end.
 -- Where one passes it is met at its turn, and at the end none passed.
 use Prim.Native.Nat.{ℕ, _+_, _≤_, _<_}
 use native.Mathlib.Omega.{arith}
@@ -9,7 +9,7 @@ use borrow.Author.Count.{below-more}
 use Rattle.model.specs.Lists.{below, any}
 use Rattle.model.specs.Reading.{byte}
 use Rattle.model.proofs.ListLaws.{below-any, below-any-false}
-use Rattle.board.specs.Tables.{ByteAt}
+use Rattle.board.specs.Inner.{ByteAt}
 
 -- z is at most n, and none of the numbers below z passes
 pub record NoneYet (f : ℕ → Bool) (n z : ℕ) : Type 0 where

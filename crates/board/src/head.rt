@@ -1,5 +1,5 @@
 // Rows 1 to 5: what the first six bytes and the number of bytes say.
-use crate::said::byte;
+use crate::input::byte;
 ghost use Prim.Native.Nat.{_≤_};
 ghost use mathlib.Core.Path.{_≡_};
 ghost use lib.ListN.{length};

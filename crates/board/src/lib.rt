@@ -1,9 +1,9 @@
-// The board reader: from any bytes whatever, the number of the first refusal that holds, or 0 with
-// the track and the first position that they say. Nothing is written, and there is no `requires`.
-mod ends;
+// The board reader: from any bytes whatever, the number of the first refusal that holds, or 0 with the track and the first position that
+// they say. `read` has no `requires`; `read_into` asks for arrays of zeros, and fills them.
 mod fill;
 mod head;
-mod said;
+mod input;
+mod links;
 mod zones;
 
 ghost use mathlib.Core.Path.{_≡_};
@@ -54,7 +54,7 @@ fn refusal_of(bytes: &[u8]) -> u32
     if number != 0 {
         return number;
     }
-    ends::refusal(bytes)
+    links::refusal(bytes)
 }
 
 // Reads the board into arrays that the caller lends filled with zeros.
@@ -71,9 +71,9 @@ pub fn read_into(bytes: &[u8], ends: &mut [usize], position: &mut [u32]) -> Boar
             zones: 0,
         };
     }
-    let points = said::byte(bytes, 3);
-    let home = said::byte(bytes, 4);
-    let zones = said::byte(bytes, 5);
+    let points = input::byte(bytes, 3);
+    let home = input::byte(bytes, 4);
+    let zones = input::byte(bytes, 5);
     fill::arrays(bytes, ends, position);
     BoardHead {
         number: 0,

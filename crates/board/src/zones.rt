@@ -1,10 +1,10 @@
 // Rows 6 and 7: what each zone says, and that no carrier stands in two zones.
-use crate::said::byte;
+use crate::input::byte;
 ghost use Prim.Native.Nat.{_+_, _*_, _<_};
 ghost use mathlib.Core.Path.{_≡_};
 ghost use lib.ListN.{length};
 ghost use Rattle.model.specs.Reading.{badZone};
-ghost use Rattle.board.specs.Tables.{Whole, zoneRefusal};
+ghost use Rattle.board.specs.Inner.{Whole, zoneRefusal};
 
 // Row 6, of one zone: an end not below P, equal ends, heading over 1, or free with heading 1.
 fn bad(bytes: &[u8], z: usize) -> bool

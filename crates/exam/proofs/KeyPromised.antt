@@ -5,6 +5,7 @@ use mathlib.Core.List.{List}
 use mathlib.Core.Path.{_≡_, sym, ap, _∙_, subst, subst₂}
 use lib.ListN.{length, take, drop}
 use lib.Seq.{take-at}
+use Rattle.model.specs.Lists.{overwritten}
 use Rattle.model.specs.Track.{Track}
 use Rattle.model.specs.Position.{Position}
 use Rattle.model.specs.Reading.{refusal, trackSaid, positionSaid}
@@ -15,7 +16,7 @@ use Rattle.demands.proofs.NamedMet.{named-right}
 use Rattle.board.specs.declared.Board.{Board}
 use Rattle.board.specs.Given.{boardOf}
 use Rattle.board.proofs.GivenLaws.{Said}
-use Rattle.exam.specs.Parsed.{Ready, overwritten, KeyGiven}
+use Rattle.exam.specs.Parsed.{Ready, KeyGiven}
 use Rattle.exam.specs.Operations.{Drawn, KeyPromise}
 use Rattle.exam.proofs.KeyLaws.{key-refused, key-read, key-drawn}
 use Rattle.exam.proofs.ReadBoard.{Bytes, number-read, ready-said, trackRead, positionRead, track-read}

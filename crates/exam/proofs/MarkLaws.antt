@@ -1,4 +1,5 @@
 -- What the marker's definition gives by the sheet's first word, and of a claim by whether anybody is blocked.
+-- The definition's tests are replaced by what they are; a claim is held against what the collapse wrote, which is the key's list.
 use Prim.Native.Nat.{ℕ, _≤_, _<_}
 use mathlib.Core.List.{List, [], _∷_}
 use mathlib.Core.Path.{_≡_, refl, sym, ap, _∙_}

@@ -1,4 +1,5 @@
 -- How the marker of a board in bytes keeps its promise: on a refusal it gives the refusal's number, and otherwise the inner marker's.
+-- By the definition's test of the refusal, and what the reader hands on; that 0 means a right sheet is the theorem `marked-right`.
 use Prim.Native.Nat.{ℕ}
 use mathlib.Core.List.{List}
 use mathlib.Core.Path.{_≡_, sym, ap, _∙_, subst}

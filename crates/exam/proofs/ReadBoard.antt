@@ -39,7 +39,7 @@ module _ {b : List ℕ} {r : Board} (s : Said b r) where
   track-read i = record { points = s .points i; home = s .home i; zones = s .zones i; ends = s .ends i }
 
   pub few-zones : r .zones ≤ 96
-  few-zones = subst (λ (n : ℕ). n ≤ 96) (sym (s .zones ∙ zones-said b)) (in-range b (no-row b (s .none)) .zones-most)
+  few-zones = subst (λ (n : ℕ). n ≤ 96) (sym (s .zones ∙ zones-said b)) (in-range b (no-row b (s .none) .range) .zones-most)
 
   pub words-in : 2 * r .zones ≤ length (r .ends)
   words-in = omega (arith, few-zones, s .ends-size)

@@ -1,5 +1,5 @@
 -- What holds of a position that is ready: at most one carrier a zone, so at most 96, and those out in a position within it can be listed.
--- Where it was cut from a list, that list is long enough to be cut there.
+-- Each carrier out stands in a zone of its own, and zones and numbers are bounded.
 use Prim.Native.Nat.{ℕ, _+_, _*_, _≤_}
 use mathlib.Core.List.{List, map}
 use mathlib.Core.Path.{_≡_}
@@ -7,7 +7,7 @@ use mathlib.Core.Bool.{not}
 use mathlib.Core.Logic.{⊎-elim}
 use native.Mathlib.Omega.{arith}
 use native.Mathlib.Nat.{le-trans, mul-le-mul-left, mul-le-mul-right}
-use lib.ListN.{length, take, length-map, length-take}
+use lib.ListN.{length, length-map}
 use lib.Dec.{eqb}
 use Rattle.model.specs.Lists.{keep}
 use Rattle.model.specs.Track.{Track}
@@ -40,6 +40,3 @@ module _ {t : Track} {p : Position} (ready : Ready t p) where
         numbers = λ z. ⊎-elim (λ e. omega (arith, ready .numbers z)) (λ e. let f : at q z ≡ 0 = e in omega arith) (within .kept z);
         room = room;
       }
-
-pub cut-within : {t : Track} (p : List ℕ) → Ready t (take (t .zones) p) → t .zones ≤ length p
-cut-within {t} p ready = omega (arith, ready .laid .each, length-take (t .zones) p)

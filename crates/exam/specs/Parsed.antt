@@ -1,8 +1,9 @@
 -- The operations on a track and a position, once the bytes are read: what they are given, and what they promise.
 use Prim.Native.Nat.{ℕ, _*_, _≤_, _<_}
-use mathlib.Core.List.{List, _++_}
+use mathlib.Core.List.{List}
 use mathlib.Core.Path.{_≡_}
-use lib.ListN.{length, drop}
+use lib.ListN.{length}
+use Rattle.model.specs.Lists.{overwritten}
 use Rattle.model.specs.Track.{Track}
 use Rattle.model.specs.Position.{Position, at}
 use Rattle.model.specs.Accepted.{Laid}
@@ -16,10 +17,6 @@ pub record Ready (t : Track) (p : Position) : Type 0 where
   pub zones-most : t .zones ≤ 96
   pub ends-count : length (t .ends) ≡ 2 * t .zones
   pub numbers : (z : ℕ) → at p z < 512
-
--- what was lent, with these numbers written from its start; the rest stays as it was
-abbrev pub overwritten : List ℕ → List ℕ → List ℕ
-overwritten written lent = written ++ drop (length written) lent
 
 -- a result and the list at exit are a collapse's answer
 pub record CollapseGiven (a : CollapseAnswer) (list : List ℕ) (number count : ℕ) (list′ : List ℕ) : Type 0 where

@@ -1,6 +1,5 @@
 // The operations on a board in bytes: the key, the collapse and the marker. They take any bytes and any room whatever, and say what they
 // give in every case.
-mod padded;
 pub mod parsed;
 
 ghost use Rattle.exam.specs.Operations.{KeyPromise, CollapsePromise, MarkPromise};
@@ -22,12 +21,14 @@ pub fn key(bytes: &[u8], plan: &mut [u16], list: &mut [u8]) -> KeyResult
             count: 0,
         };
     }
-    padded::key(
+    let zones = head.zones;
+    let words = 2 * zones;
+    parsed::key(
         head.points,
         head.home,
-        head.zones,
-        &ends,
-        &mut position,
+        zones,
+        &ends[..words],
+        &mut position[..zones],
         plan,
         list,
     )
@@ -47,12 +48,14 @@ pub fn collapse(bytes: &[u8], list: &mut [u8]) -> CollapseResult
             count: 0,
         };
     }
-    padded::collapse(
+    let zones = head.zones;
+    let words = 2 * zones;
+    parsed::collapse(
         head.points,
         head.home,
-        head.zones,
-        &ends,
-        &mut position,
+        zones,
+        &ends[..words],
+        &mut position[..zones],
         list,
     )
 }
@@ -68,12 +71,14 @@ pub fn mark(bytes: &[u8], sheet: &[u16]) -> u32
     if number != 0 {
         return number;
     }
-    padded::mark(
+    let zones = head.zones;
+    let words = 2 * zones;
+    parsed::mark(
         head.points,
         head.home,
-        head.zones,
-        &ends,
-        &mut position,
+        zones,
+        &ends[..words],
+        &mut position[..zones],
         sheet,
     )
 }

@@ -1,16 +1,16 @@
 -- What every queue of the search has, finished or not: as many words as places found from, words below n and none twice, and each but the first found from an earlier place.
--- It holds of the first queue and an offer keeps it; an offer changes nothing that stands in the queue already.
+-- It holds of the first queue and a new word at the end keeps it; a new word changes nothing that stands in the queue already.
 use Prim.Native.Nat.{ℕ, zero, suc, _≤_, _<_}
 use mathlib.Core.Path.{_≡_, refl, sym, _∙_, ap}
-use mathlib.Core.List.{List, List·Memᴰ, List·Memᴰ·not-nil}
+use mathlib.Core.List.{List·Memᴰ·not-nil}
 use mathlib.Core.Bool.{false}
 use native.Mathlib.Omega.{arith}
 use lib.ListN.{length}
 use Rattle.model.proofs.AscendingLaws.{NoRepeats}
 use Rattle.model.proofs.PlaceLaws.{mem-getD}
-use Rattle.least.specs.Queue.{Queue, inQueue, offer, offerAll}
-use Rattle.least.proofs.RepeatLaws.{appended-no-repeats, no-repeats-places, no-repeats-length}
-use Rattle.least.proofs.QueueLaws.{size, wordAt, fromAt, startQueue, added, offer-cases, offerAll-keeps, not-in-place, length-appended, size-added, word-old, from-old, added-places}
+use Rattle.least.specs.Queue.{Queue, inQueue}
+use Rattle.least.proofs.RepeatLaws.{appended-no-repeats, no-repeats-length}
+use Rattle.least.proofs.QueueLaws.{size, wordAt, fromAt, startQueue, added, not-in-place, length-appended, size-added, word-old, from-old, added-places}
 
 pub record Proper (n : ℕ) (q : Queue) : Type 0 where
   pub even : length (q .froms) ≡ size q
@@ -38,9 +38,6 @@ module _ {n : ℕ} {q : Queue} (p : Proper n q) where
   pub proper-size : size q ≤ n
   proper-size = no-repeats-length n (q .words) (p .different) (λ x m. let (j, h, e) = mem-getD 0 m in rw e at (p .lower j h))
 
-  pub proper-different : (j k : ℕ) → j < k → k < size q → wordAt q j ≡ wordAt q k → ⊥
-  proper-different j k a b e = no-repeats-places (q .words) (p .different) j k a b e
-
   pub added-proper : (i v : ℕ) → i < size q → v < n → inQueue q v ≡ false → Proper n (added i q v)
   added-proper i v b c e = record {
     even = length-appended (q .froms) i ∙ ap suc (p .even) ∙ sym (size-added i q v);
@@ -49,13 +46,6 @@ module _ {n : ℕ} {q : Queue} (p : Proper n q) where
     different = appended-no-repeats (q .words) v (p .different) (λ m. let (j, h, r) = mem-getD 0 m in not-in-place q v e j h r);
     falls = λ j z h. added-places i q v (p .even) (λ j w f. 0 < j → f < j) (λ j h z. p .falls j z h) (λ z. b) j h z;
   }
-
-  pub offer-proper : (i v : ℕ) → i < size q → v < n → Proper n (offer i q v)
-  offer-proper i v b c = offer-cases (Proper n) i q v (λ e. p) (λ e. added-proper i v b c e)
-
--- a new word has room among n places
-pub new-room : {n : ℕ} {q : Queue} → Proper n q → (v : ℕ) → v < n → inQueue q v ≡ false → size q < n
-new-room {q = q} p v c e = rw (size-added 0 q v) at (proper-size (added-proper p 0 v (p .begun) c e))
 
 -- r is q with nothing changed and perhaps more at its end
 pub record Grown (q r : Queue) : Type 0 where
@@ -79,19 +69,3 @@ grown-added i q v even = record {
   same-word = word-old i q v;
   same-from = from-old i q v even;
 }
-
-pub offer-grown : (i : ℕ) (q : Queue) (v : ℕ) → length (q .froms) ≡ size q → Grown q (offer i q v)
-offer-grown i q v even = offer-cases (Grown q) i q v (λ e. grown-same q) (λ e. grown-added i q v even)
-
-module _ {n : ℕ} {q : Queue} (p : Proper n q) (i : ℕ) (b : i < size q) where
-  offers : (vs : List ℕ) → ((v : ℕ) → List·Memᴰ v vs → v < n) → Proper n (offerAll i q vs) × Grown q (offerAll i q vs)
-  offers vs c = offerAll-keeps (λ r. Proper n r × Grown q r) i vs step q (p, grown-same q)
-    where
-      step : (r : Queue) (v : ℕ) → List·Memᴰ v vs → Proper n r × Grown q r → Proper n (offer i r v) × Grown q (offer i r v)
-      step r v m (k, g) = (offer-proper k i v (omega arith) (c v m), grown-twice g (offer-grown i r v (k .even)))
-
-  pub offerAll-proper : (vs : List ℕ) → ((v : ℕ) → List·Memᴰ v vs → v < n) → Proper n (offerAll i q vs)
-  offerAll-proper vs c = offers vs c .0
-
-  pub offerAll-grown : (vs : List ℕ) → ((v : ℕ) → List·Memᴰ v vs → v < n) → Grown q (offerAll i q vs)
-  offerAll-grown vs c = offers vs c .1

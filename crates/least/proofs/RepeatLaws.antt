@@ -1,4 +1,4 @@
--- Lists in which no number stands twice: one number more at the end, two places, and how long such a list of numbers below n can be.
+-- Lists in which no number stands twice: one number more at the end, and how long such a list of numbers below n can be.
 -- The last by induction on n: the greatest number that is allowed stands in the list at most once, and is taken out.
 use Prim.Native.Nat.{ℕ, zero, suc, _≤_, _<_}
 use mathlib.Core.Path.{_≡_, refl, sym, _∙_, ap}
@@ -6,13 +6,12 @@ use mathlib.Core.Logic.{_⊎_, inl, inr}
 use mathlib.Core.List.{List, [], _∷_, _++_, List·Memᴰ, List·Memᴰ·head, List·Memᴰ·tail, List·Memᴰ·not-nil, List·Memᴰ·append-cases, List·Memᴰ·eq-of-singleton, Memᴰ·cast}
 use mathlib.Core.Bool.{Bool, true, false, not}
 use native.Mathlib.Omega.{arith}
-use lib.ListN.{length, getD}
+use lib.ListN.{length}
 use lib.Dec.{eqb}
 use borrow.Author.Tests.{eqb-true, eqb-false, ne-eqb, not-true}
 use Rattle.model.specs.Lists.{consIf, keep}
 use Rattle.model.proofs.AscendingLaws.{NoRepeats}
 use Rattle.model.proofs.ListLaws.{mem-keep, keep-all}
-use Rattle.model.proofs.PlaceLaws.{getD-mem}
 
 pub appended-no-repeats : (l : List ℕ) (v : ℕ) → NoRepeats l → (List·Memᴰ v l → ⊥) → NoRepeats (l ++ (v ∷ []))
 appended-no-repeats [] v d h = (List·Memᴰ·not-nil, tt)
@@ -21,13 +20,6 @@ appended-no-repeats (a ∷ l) v d h = (λ m. again (List·Memᴰ·append-cases l
     again : List·Memᴰ a l ⊎ List·Memᴰ a (v ∷ []) → ⊥
     again (inl m) = d .0 m
     again (inr m) = h (List·Memᴰ·head (sym (List·Memᴰ·eq-of-singleton m)))
-
--- no number stands at two places
-pub no-repeats-places : (l : List ℕ) → NoRepeats l → (j k : ℕ) → j < k → k < length l → getD l j 0 ≡ getD l k 0 → ⊥
-no-repeats-places [] d j k a b e = omega arith
-no-repeats-places (x ∷ l) d j zero a b e = omega arith
-no-repeats-places (x ∷ l) d zero (suc k) a b e = d .0 (rw e (getD-mem 0 l k (omega arith)))
-no-repeats-places (x ∷ l) d (suc j) (suc k) a b e = no-repeats-places l (d .1) j k (omega arith) (omega arith) e
 
 pub keep-no-repeats : (f : ℕ → Bool) (l : List ℕ) → NoRepeats l → NoRepeats (keep f l)
 keep-no-repeats f [] d = tt

@@ -1,4 +1,3 @@
-pub mod ReadyLaws
 pub mod ScanLaws
 pub mod RouteLaws
 pub mod ClaimLaws

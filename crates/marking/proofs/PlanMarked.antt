@@ -17,7 +17,7 @@ use Rattle.model.specs.Position.{Position, carrierOf, retire, outs}
 use Rattle.model.specs.Accepted.{Laid}
 use Rattle.rules.specs.Routes.{Route, route, Entry, Retires, done, next, Empty}
 use Rattle.rules.specs.Key.{planWords}
-use Rattle.rules.specs.Sheet.{stillOut, byRules, endsHome, markEnd, numberOf, markEntry, markEntries}
+use Rattle.rules.specs.Sheet.{OrderGiven, stillOut, byRules, endsHome, markEnd, numberOf, markEntry, markEntries}
 use Rattle.rules.proofs.OutTested.{stands-out}
 use Rattle.marking.proofs.RouteMarked.{route-of-tests, rules-of-route, home-of-route}
 
@@ -73,30 +73,23 @@ numbered-of-out p c h = eqb-false c 0 (not-true (eqb c 0) (and-left (not (eqb c 
 out-of-route : (t : Track) (p : Position) (c : ℕ) {r : List ℕ} → Route t p c r → stillOut p c ≡ true
 out-of-route t p c (route s o) = stands-out s
 
--- an order of all carriers out, written as these words
-pub record Given (t : Track) (p : Position) (ws : List ℕ) : Type 0 where
-  pub entries : List Entry
-  pub last : Position
-  pub written : ws ≡ planWords entries
-  pub retires : Retires t p entries last
-  pub empty : Empty last
-
-given-end : (t : Track) (p : Position) → markEnd p ≡ 0 → Given t p []
+given-end : (t : Track) (p : Position) → markEnd p ≡ 0 → OrderGiven t p (0 ∷ [])
 unfolding planWords
 given-end t p h = record { entries = []; last = p; written = refl; retires = done; empty = empty-of-end p h }
 
-given-entry : (t : Track) (p : Position) (c k : ℕ) (ws : List ℕ) → k ≤ length ws → Route t p c (take k ws) → Given t (retire c p) (drop k ws) → Given t p (c ∷ k ∷ ws)
+given-entry : (t : Track) (p : Position) (c k : ℕ) (ws : List ℕ) → k ≤ length ws → Route t p c (take k ws) → OrderGiven t (retire c p) (0 ∷ drop k ws) → OrderGiven t p (0 ∷ c ∷ k ∷ ws)
 unfolding planWords
 given-entry t p c k ws fits r g =
+    let rest : drop k ws ≡ planWords (g .entries) = cc (g .written) in
     record {
       entries = record { carrier = c; words = take k ws } ∷ g .entries;
       last = g .last;
-      written = rw (length-take-le k ws fits, ← (g .written), take-append-drop k ws);
+      written = rw (length-take-le k ws fits, ← rest, take-append-drop k ws);
       retires = next r (g .retires);
       empty = g .empty;
     }
 
-pub order-of-zero : (t : Track) (n : ℕ) (p : Position) (ws : List ℕ) → length ws ≤ n → Laid t p → markEntries n t p ws ≡ 0 → Given t p ws
+pub order-of-zero : (t : Track) (n : ℕ) (p : Position) (ws : List ℕ) → length ws ≤ n → Laid t p → markEntries n t p ws ≡ 0 → OrderGiven t p (0 ∷ ws)
 unfolding markEntries markEntry
 order-of-zero t zero p [] fits laid h = given-end t p h
 order-of-zero t zero p (c ∷ ws) fits laid h = absurd (let f : suc (length ws) ≤ 0 = fits in omega arith)

@@ -18,7 +18,7 @@ use Rattle.model.specs.Position.{Position}
 use Rattle.model.specs.Accepted.{Laid}
 use Rattle.rules.specs.Routes.{Blocked, Empty}
 use Rattle.rules.specs.Key.{planWords, named, run, verdictOf}
-use Rattle.rules.specs.Sheet.{BlockedNamed, Right, sameList, markClaim, markEntries, markFor}
+use Rattle.rules.specs.Sheet.{BlockedNamed, Right, sameList, markClaim, markFor}
 use Rattle.order.proofs.Named.{named-iff-blocked, named-ascending, named-left, unnamed-iff-ordered}
 use Rattle.order.proofs.KeyRun.{run-retires}
 use Rattle.order.proofs.Verdicts.{verdict-ordered}
@@ -66,27 +66,18 @@ module _ (t : Track) (p : Position) (laid : Laid t p) where
       (λ c m. named-iff-blocked t p laid c .1 (b .blocked c .0 m))
       (λ c m. b .blocked c .1 (named-iff-blocked t p laid c .0 m))
 
-  mark-plan : (ws : List ℕ) → markFor t p (0 ∷ ws) ≡ markEntries (length ws) t p ws
-  unfolding markFor
-  mark-plan ws = refl
-
-  mark-claim : (ws : List ℕ) → markFor t p (1 ∷ ws) ≡ markClaim t p ws
-  unfolding markFor
-  mark-claim ws = refl
-
   pub right-of-zero : (sheet : List ℕ) → markFor t p sheet ≡ 0 → Right t p sheet
   unfolding markFor
   right-of-zero [] h = not-zero 29 h
-  right-of-zero (zero ∷ ws) h =
-      let g = order-of-zero t (length ws) p ws (le-refl (length ws)) laid h in
-      inl (record { entries = g .entries; last = g .last; written = ap (λ (l : List ℕ). 0 ∷ l) (g .written); retires = g .retires; empty = g .empty })
+  right-of-zero (zero ∷ ws) h = inl (order-of-zero t (length ws) p ws (le-refl (length ws)) laid h)
   right-of-zero (suc zero ∷ ws) h = inr (claim-of-zero ws h)
   right-of-zero (suc (suc n) ∷ ws) h = not-zero 29 (rw (ne-eqb (suc (suc n)) 0 (λ e. omega arith), ne-eqb (suc (suc n)) 1 (λ e. omega arith)) at h)
 
   pub zero-of-right : (sheet : List ℕ) → Right t p sheet → markFor t p sheet ≡ 0
+  unfolding markFor
   zero-of-right sheet (inl o) =
-      rw (o .written, mark-plan (planWords (o .entries))) (zero-of-order t (length (planWords (o .entries))) (le-refl _) laid (o .retires) (o .empty))
-  zero-of-right sheet (inr b) = rw (b .written, mark-claim (b .list)) (zero-of-claim (b .list) (b .some) (list-of-blocked b))
+      rw (o .written) (zero-of-order t (length (planWords (o .entries))) (le-refl _) laid (o .retires) (o .empty))
+  zero-of-right sheet (inr b) = rw (b .written) (zero-of-claim (b .list) (b .some) (list-of-blocked b))
 
   pub marked-right : (sheet : List ℕ) → (markFor t p sheet ≡ 0) ↔ Right t p sheet
   marked-right sheet = (right-of-zero sheet, zero-of-right sheet)
@@ -103,4 +94,5 @@ module _ (t : Track) (p : Position) (laid : Laid t p) where
 
   -- the key's list as a claim passes on every other board
   pub key-list-passes : (verdictOf (named t p) ≡ 0 → ⊥) → markFor t p (1 ∷ named t p) ≡ 0
-  key-list-passes v = rw (mark-claim (named t p)) (zero-of-claim (named t p) (λ none. v (ap verdictOf none)) refl)
+  unfolding markFor
+  key-list-passes v = zero-of-claim (named t p) (λ none. v (ap verdictOf none)) refl

@@ -11,10 +11,6 @@ pub not-true-false : (t : Bool) → (t ≡ true → ⊥) → t ≡ false
 not-true-false true h = absurd (h refl)
 not-true-false false h = refl
 
-pub not-false-true : (t : Bool) → (t ≡ false → ⊥) → t ≡ true
-not-false-true true h = refl
-not-false-true false h = absurd (h refl)
-
 -- a test is true or false, with the equation
 pub decided : (t : Bool) → (t ≡ true) ⊎ (t ≡ false)
 decided true = inl refl

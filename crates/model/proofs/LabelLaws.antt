@@ -73,12 +73,6 @@ module _ (t : Track) where
   abbrev pub EndsIn : List ℕ → ℕ → Type 0
   EndsIn zs n = (z : ℕ) → List·Memᴰ z zs → (start t (2 * z) < n) × (leave t (2 * z) < n)
 
-  pub tied-below : {ls zs : List ℕ} → EndsIn zs (length ls) → {r s : ℕ} → Tied t ls zs r s → (r < length ls) × (s < length ls)
-  tied-below i (alike h k e) = (h, k)
-  tied-below i (ends z m) = i z m
-  tied-below i (back a) = let b = tied-below i a in (b .1, b .0)
-  tied-below i (onward a b) = (tied-below i a .0, tied-below i b .1)
-
   -- a relation that goes both ways and onward, and holds of like labels and of the ends of zones, holds of all that is tied
   pub tied-least : {ls zs : List ℕ} (R : ℕ → ℕ → Type 0)
       → ((r s : ℕ) → r < length ls → s < length ls → label ls r ≡ label ls s → R r s)

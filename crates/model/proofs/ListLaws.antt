@@ -4,8 +4,8 @@ use Prim.Native.Nat.{ℕ, zero, suc, _+_, _≤_, _<_}
 use mathlib.Core.Path.{_≡_, refl, sym, _∙_, ap, ap₂, subst}
 use mathlib.Core.Logic.{_⊎_, inl, inr}
 use mathlib.Core.List.{List, [], _∷_, _++_, List·Memᴰ, List·Memᴰ·head, List·Memᴰ·tail, List·Memᴰ·not-nil, List·Memᴰ·cases-cons}
-use mathlib.Core.Bool.{Bool, true, false, not, true≢false, false≢true, _&&_, _||_}
-use mathlib.Core.Option.{Option, none, some}
+use mathlib.Core.Bool.{Bool, true, false, true≢false, false≢true, _&&_, _||_}
+use mathlib.Core.Option.{none, some}
 use native.Mathlib.Nat.{eq-or-lt-of-le}
 use native.Mathlib.Omega.{arith}
 use lib.ListN.{length, getD, replicate, length-append}
@@ -135,10 +135,6 @@ module _ {A : Type 0} where
   pub false-any : (f : A → Bool) (l : List A) → ((x : A) → List·Memᴰ x l → f x ≡ false) → any f l ≡ false
   false-any f l h = not-true-false (any f l) (λ e. let r = any-true f l e in true≢false (sym (r .2) ∙ h (r .0) (r .1)))
 
-  pub any-ext : (f g : A → Bool) (l : List A) → ((x : A) → List·Memᴰ x l → f x ≡ g x) → any f l ≡ any g l
-  any-ext f g [] h = refl
-  any-ext f g (a ∷ l) h = ap₂ (λ (s t : Bool). s || t) (h a (List·Memᴰ·head refl)) (any-ext f g l (λ x m. h x (List·Memᴰ·tail m)))
-
   pub all-true : (f : A → Bool) {l : List A} → all f l ≡ true → {x : A} → List·Memᴰ x l → f x ≡ true
   all-true f e (List·Memᴰ·head {x = a} {xs = l} q) = ap f q ∙ and-left (f a) (all f l) e
   all-true f e (List·Memᴰ·tail {x = a} {xs = l} m) = all-true f (and-right (f a) (all f l) e) m
@@ -154,9 +150,6 @@ module _ {A : Type 0} where
       go : (t : Bool) → f a ≡ t → (t && all f l) ≡ false → (all f l ≡ false → (x : A) × List·Memᴰ x l × (f x ≡ false)) → (x : A) × List·Memᴰ x (a ∷ l) × (f x ≡ false)
       go true q h ih = let r = ih h in (r .0, List·Memᴰ·tail (r .1), r .2)
       go false q h ih = (a, List·Memᴰ·head refl, q)
-
-  pub false-all : (f : A → Bool) {l : List A} {x : A} → List·Memᴰ x l → f x ≡ false → all f l ≡ false
-  false-all f {l} m e = not-true-false (all f l) (λ q. true≢false (sym (all-true f q m) ∙ e))
 
   -- first
 
@@ -179,14 +172,6 @@ module _ {A : Type 0} where
       go : (t : Bool) → orElse t a (first f l) ≡ none → first f l ≡ none
       go true h = absurd (let z : _≡_ {A = ℕ} 0 1 = cc in omega arith)
       go false h = h
-
-  pub none-first : (f : A → Bool) (l : List A) → ((x : A) → List·Memᴰ x l → f x ≡ false) → first f l ≡ none
-  none-first f [] h = refl
-  none-first f (a ∷ l) h = ap₂ (λ (t : Bool) (o : Option A). orElse t a o) (h a (List·Memᴰ·head refl)) (none-first f l (λ x m. h x (List·Memᴰ·tail m)))
-
-  pub first-ext : (f g : A → Bool) (l : List A) → ((x : A) → List·Memᴰ x l → f x ≡ g x) → first f l ≡ first g l
-  first-ext f g [] h = refl
-  first-ext f g (a ∷ l) h = ap₂ (λ (t : Bool) (o : Option A). orElse t a o) (h a (List·Memᴰ·head refl)) (first-ext f g l (λ x m. h x (List·Memᴰ·tail m)))
 
   -- count
 
@@ -236,30 +221,7 @@ module _ {A : Type 0} where
   pub count-length : (f : A → Bool) (l : List A) → count f l ≤ length l
   count-length f l = subst (λ (n : ℕ). count f l ≤ n) (count-all (λ _. true) l (λ _ _. refl)) (count-mono f (λ _. true) l (λ _ _ _. refl))
 
-  -- those that pass and those that fail are all
-  pub count-not : (f : A → Bool) (l : List A) → count f l + count (λ x. not (f x)) l ≡ length l
-  count-not f [] = omega arith
-  count-not f (a ∷ l) = go (f a) (count-not f l)
-    where
-      go : (t : Bool) → count f l + count (λ x. not (f x)) l ≡ length l → length (consIf t a (keep f l)) + length (consIf (not t) a (keep (λ x. not (f x)) l)) ≡ suc (length l)
-      go true ih = omega arith
-      go false ih = omega arith
-
   -- times
-
-  pub times-add : (m n : ℕ) (f : A → A) (a : A) → times (m + n) f a ≡ times n f (times m f a)
-  times-add zero n f a = ap (λ (k : ℕ). times k f a) s
-    where
-      s : 0 + n ≡ n
-      s = omega arith
-  times-add (suc m) n f a = ap (λ (k : ℕ). times k f a) s ∙ times-add m n f (f a)
-    where
-      s : suc m + n ≡ suc (m + n)
-      s = omega arith
-
-  pub times-suc : (n : ℕ) (f : A → A) (a : A) → times (suc n) f a ≡ f (times n f a)
-  times-suc zero f a = refl
-  times-suc (suc n) f a = times-suc n f (f a)
 
   -- what holds at first and is kept each time holds at the end
   pub times-keeps : (P : A → Type 0) (f : A → A) → ((a : A) → P a → P (f a)) → (n : ℕ) (a : A) → P a → P (times n f a)
@@ -267,10 +229,6 @@ module _ {A : Type 0} where
   times-keeps P f h (suc n) a p = times-keeps P f h n (f a) (h a p)
 
 module _ {A B : Type 0} where
-  pub foldLeft-append : (f : B → A → B) (b : B) (l m : List A) → foldLeft f b (l ++ m) ≡ foldLeft f (foldLeft f b l) m
-  foldLeft-append f b [] m = refl
-  foldLeft-append f b (a ∷ l) m = foldLeft-append f (f b a) l m
-
   -- what holds at first and is kept by each member holds at the end
   pub foldLeft-keeps : (P : B → Type 0) (f : B → A → B) (l : List A) → ((b : B) (a : A) → List·Memᴰ a l → P b → P (f b a)) → (b : B) → P b → P (foldLeft f b l)
   foldLeft-keeps P f [] h b p = p
@@ -362,6 +320,3 @@ below-first f n k h e l = countUp-first f 0 n k (record { large = omega arith; s
 
 pub first-below-none : (f : ℕ → Bool) (n : ℕ) → first f (below n) ≡ none → (x : ℕ) → x < n → f x ≡ false
 first-below-none f n e x h = first-none f e (below-mem n x h)
-
-pub below-first-none : (f : ℕ → Bool) (n : ℕ) → ((x : ℕ) → x < n → f x ≡ false) → first f (below n) ≡ none
-below-first-none f n h = none-first f (below n) (λ x m. h x (mem-below n m))

@@ -14,14 +14,14 @@ use Rattle.model.specs.Position.{Position, at, Stands, Once, retire}
 use Rattle.model.specs.Accepted.{Laid}
 use Rattle.model.proofs.BoolLaws.{decided}
 use Rattle.model.proofs.WordLaws.{zone-below}
-use Rattle.model.proofs.PositionLaws.{laid-retire, length-without, retire-stands, stands-held, stands-retire, stands-same}
+use Rattle.model.proofs.PositionLaws.{laid-retire, length-without, stands-retire, stands-same}
 
--- single moves: carrier c goes from its standing u into the free zone of word w
+-- single moves: carrier c goes from its standing u into the zone of word w
 
 abbrev pub movedTo : Position → ℕ → ℕ → Position
 movedTo p c w = set (retire c p) (zoneOf w) (2 * c + headingOf w)
 
-module _ (t : Track) (p : Position) (l : Laid t p) (c u w : ℕ) (s : Stands p c u) (free : at p (zoneOf w) ≡ 0) (word : w < 2 * t .zones) where
+module _ (t : Track) (p : Position) (l : Laid t p) (c u w : ℕ) (s : Stands p c u) (word : w < 2 * t .zones) where
   pub length-moved : length (movedTo p c w) ≡ length p
   length-moved = length-set (retire c p) (zoneOf w) (2 * c + headingOf w) ∙ length-without (eqb c) p
 
@@ -49,14 +49,6 @@ module _ (t : Track) (p : Position) (l : Laid t p) (c u w : ℕ) (s : Stands p c
     holds = sym (at-moved-other (zoneOf v) n) ∙ r .holds;
   }
 
-  -- any other carrier stands where it stood
-  pub moved-other : {d v : ℕ} → (c ≡ d → ⊥) → Stands p d v → Stands (movedTo p c w) d v
-  moved-other {d} {v} n r = record {
-    numbered = r .numbered;
-    inside = subst (λ (k : ℕ). zoneOf v < k) (sym length-moved) (r .inside);
-    holds = at-moved-other (zoneOf v) (λ e. stands-held r (ap (at p) e ∙ free)) ∙ retire-stands c r n .holds;
-  }
-
   pub other-moved : {d v : ℕ} → (c ≡ d → ⊥) → Stands (movedTo p c w) d v → Stands p d v
   other-moved {d} {v} n r = stands-retire c p (moved-elsewhere r (λ e. n (stands-same moved-stands r (sym e) .0))) .0
 
@@ -75,12 +67,12 @@ module _ (t : Track) (p : Position) (l : Laid t p) (c u w : ℕ) (s : Stands p c
       go (inl e) = let k : d ≡ c = sym (eqb-true c d e) in moved-here (subst (λ (y : ℕ). Stands (movedTo p c w) y v) k r) ∙ sym (moved-here (subst (λ (y : ℕ). Stands (movedTo p c w) y x) k q))
       go (inr e) = l .once d v x (other-moved (eqb-false c d e) r) (other-moved (eqb-false c d e) q)
 
-  moved-plain : (z : ℕ) → at (movedTo p c w) z ≡ 1 → ⊥
-  moved-plain z e = go (decided (eqb z (zoneOf w)))
+  moved-free-heading : (z : ℕ) → at (movedTo p c w) z ≡ 1 → ⊥
+  moved-free-heading z e = go (decided (eqb z (zoneOf w)))
     where
       go : (eqb z (zoneOf w) ≡ true) ⊎ (eqb z (zoneOf w) ≡ false) → ⊥
       go (inl q) = let h : 2 * c + headingOf w ≡ 1 = sym at-moved-here ∙ ap (at (movedTo p c w)) (sym (eqb-true z (zoneOf w) q)) ∙ e in s .numbered (omega arith)
-      go (inr q) = laid-retire t c p l .plain z (sym (at-moved-other z (eqb-false z (zoneOf w) q)) ∙ e)
+      go (inr q) = laid-retire t c p l .free-heading z (sym (at-moved-other z (eqb-false z (zoneOf w) q)) ∙ e)
 
   pub moved-laid : Laid t (movedTo p c w)
-  moved-laid = record { each = length-moved ∙ l .each; once = moved-once; plain = moved-plain; inside = l .inside; home-in = l .home-in }
+  moved-laid = record { each = length-moved ∙ l .each; once = moved-once; free-heading = moved-free-heading; inside = l .inside; home-in = l .home-in }

@@ -4,7 +4,7 @@ use Prim.Native.Nat.{ℕ, suc, _+_, _*_, _<_}
 use mathlib.Core.Path.{_≡_, refl, sym, _∙_, ap, ap₂, subst}
 use mathlib.Core.Logic.{_⊎_, inl, inr, ⊎-elim}
 use mathlib.Core.List.{List, [], _∷_, map, List·Memᴰ, Memᴰ·cast, Memᴰ·map, Memᴰ·of-map}
-use mathlib.Core.Bool.{Bool, true, false, not, cond, _||_}
+use mathlib.Core.Bool.{Bool, true, false, not, cond}
 use native.Mathlib.Nat.{suc-inj}
 use native.Mathlib.Omega.{arith}
 use lib.ListN.{length, getD, set, length-map, length-set, List·getD-map}
@@ -18,7 +18,7 @@ use Rattle.model.specs.Accepted.{Laid}
 use Rattle.model.proofs.BoolLaws.{decided}
 use Rattle.model.proofs.ListLaws.{mem-keep, keep-mem, any-true, any-false}
 use Rattle.model.proofs.AscendingLaws.{mem-ascending, ascending-mem, ascending-strict, ascending-unique, ascending-no-repeats, keep-ascending, NoRepeats}
-use Rattle.model.proofs.PlaceLaws.{keep-one-fewer, mem-getD, getD-mem, map-ext}
+use Rattle.model.proofs.PlaceLaws.{keep-one-fewer, mem-getD, getD-mem}
 use Rattle.model.proofs.WordLaws.{below-zone, carrier-word, heading-small, heading-word, word-parts}
 
 -- what is left when carriers are taken off
@@ -63,6 +63,10 @@ stands-word {p} {c} {w} s = ap (λ (h : ℕ). 2 * zoneOf w + h) (stands-heading 
 pub stands-held : {p : Position} {c w : ℕ} → Stands p c w → at p (zoneOf w) ≡ 0 → ⊥
 stands-held {p} {c} {w} s e = s .numbered (omega (arith, s .holds))
 
+-- a zone where a carrier stands is not free
+pub stands-not-free : {p : Position} {c w : ℕ} → Stands p c w → isFree p (zoneOf w) ≡ false
+stands-not-free {p} {c} {w} s = ne-eqb (at p (zoneOf w)) 0 (stands-held s)
+
 -- one zone, one carrier
 pub stands-same : {p : Position} {c d v w : ℕ} → Stands p c v → Stands p d w → zoneOf v ≡ zoneOf w → (c ≡ d) × (v ≡ w)
 stands-same {p} {c} {d} {v} {w} r s e =
@@ -95,7 +99,7 @@ pub laid-without : (t : Track) (g : ℕ → Bool) (p : Position) → Laid t p �
 laid-without t g p l = record {
   each = length-without g p ∙ l .each;
   once = once-without g p (l .once);
-  plain = λ z e. ⊎-elim (λ q. l .plain z (sym q ∙ e)) (λ q. let f : at (without g p) z ≡ 0 = q .1 in omega arith) (without-cases g p z);
+  free-heading = λ z e. ⊎-elim (λ q. l .free-heading z (sym q ∙ e)) (λ q. let f : at (without g p) z ≡ 0 = q .1 in omega arith) (without-cases g p z);
   inside = l .inside;
   home-in = l .home-in;
 }
@@ -113,34 +117,6 @@ stands-retire d p {c} s = let r = stands-without (eqb d) p s in (r .0, eqb-false
 pub retire-stands : (d : ℕ) {p : Position} {c w : ℕ} → Stands p c w → (d ≡ c → ⊥) → Stands (retire d p) c w
 retire-stands d {c = c} s n = without-stands (eqb d) s (ne-eqb d c n)
 
--- taken off in turn is taken off at once
-pub without-without : (f g : ℕ → Bool) (p : Position) → without f (without g p) ≡ without (λ c. g c || f c) p
-without-without f g [] = refl
-without-without f g (v ∷ p) = ap₂ (λ (x : ℕ) (y : List ℕ). x ∷ y) (go (g (carrierOf v))) (without-without f g p)
-  where
-    go : (t : Bool) → cond (f (carrierOf (cond t 0 v))) 0 (cond t 0 v) ≡ cond (t || f (carrierOf v)) 0 v
-    go true = kept-zero (f (carrierOf 0))
-    go false = refl
-
-pub without-ext : (f g : ℕ → Bool) (p : Position) → ((c : ℕ) → f c ≡ g c) → without f p ≡ without g p
-without-ext f g p h = map-ext (λ v. cond (f (carrierOf v)) 0 v) (λ v. cond (g (carrierOf v)) 0 v) p (λ v _. ap (λ (t : Bool). cond t 0 v) (h (carrierOf v)))
-
-or-same : (t : Bool) → (t || t) ≡ t
-or-same true = refl
-or-same false = refl
-
-or-swap : (s t : Bool) → (s || t) ≡ (t || s)
-or-swap true true = refl
-or-swap true false = refl
-or-swap false true = refl
-or-swap false false = refl
-
-pub retire-twice : (c : ℕ) (p : Position) → retire c (retire c p) ≡ retire c p
-retire-twice c p = without-without (eqb c) (eqb c) p ∙ without-ext (λ d. eqb c d || eqb c d) (eqb c) p (λ d. or-same (eqb c d))
-
-pub without-swap : (f g : ℕ → Bool) (p : Position) → without f (without g p) ≡ without g (without f p)
-without-swap f g p = without-without f g p ∙ without-ext (λ c. g c || f c) (λ c. f c || g c) p (λ c. or-swap (g c) (f c)) ∙ sym (without-without g f p)
-
 -- who is out
 
 -- what stands in a held zone
@@ -156,7 +132,7 @@ held-stands p z h n = record { numbered = n; inside = subst (λ (k : ℕ). k < l
 module _ (t : Track) (p : Position) (l : Laid t p) where
   -- a zone that holds a number holds a carrier
   pub laid-numbered : (z : ℕ) → (at p z ≡ 0 → ⊥) → carrierOf (at p z) ≡ 0 → ⊥
-  laid-numbered z n e = let k : at p z ≡ 1 → ⊥ = l .plain z in omega arith
+  laid-numbered z n e = let k : at p z ≡ 1 → ⊥ = l .free-heading z in omega arith
 
   pub laid-inside : (z : ℕ) → z < t .zones → z < length p
   laid-inside z h = subst (λ (k : ℕ). z < k) (sym (l .each)) h
@@ -167,17 +143,6 @@ module _ (t : Track) (p : Position) (l : Laid t p) where
   -- a standing is a word of the track
   pub stands-below : {c w : ℕ} → Stands p c w → w < 2 * t .zones
   stands-below {c} {w} s = below-zone (t .zones) w (subst (λ (k : ℕ). zoneOf w < k) (l .each) (s .inside))
-
-  pub stands-not-free : {c w : ℕ} → Stands p c w → isFree p (zoneOf w) ≡ false
-  stands-not-free {c} {w} s = ne-eqb (at p (zoneOf w)) 0 (stands-held s)
-
-  -- a zone is free, or a carrier stands in it
-  pub zone-cases : (z : ℕ) → z < t .zones → (at p z ≡ 0) ⊎ Stands p (carrierOf (at p z)) (2 * z + headingOf (at p z))
-  zone-cases z h = go (decided (isFree p z))
-    where
-      go : (isFree p z ≡ true) ⊎ (isFree p z ≡ false) → (at p z ≡ 0) ⊎ Stands p (carrierOf (at p z)) (2 * z + headingOf (at p z))
-      go (inl e) = inl (eqb-true (at p z) 0 e)
-      go (inr e) = inr (laid-stands z h e)
 
 pub mem-outs : (p : Position) {c : ℕ} → List·Memᴰ c (outs p) → Out p c
 mem-outs p {c} m =
@@ -272,34 +237,3 @@ out-decided p c = go (decided (any (eqb c) (outs p)))
     go : (any (eqb c) (outs p) ≡ true) ⊎ (any (eqb c) (outs p) ≡ false) → Out p c ⊎ (Out p c → ⊥)
     go (inl e) = let r = any-true (eqb c) (outs p) e in inl (mem-outs p (Memᴰ·cast (eqb-true c (r .0) (r .2)) (r .1)))
     go (inr e) = inr (λ u. eqb-false c c (any-false (eqb c) e (outs-mem p u)) refl)
-
-pub out-without : (g : ℕ → Bool) (p : Position) {c : ℕ} → Out (without g p) c → Out p c × (g c ≡ false)
-out-without g p u = let r = stands-without g p (u .1) in ((u .0, r .0), r .1)
-
-pub without-out : (g : ℕ → Bool) {p : Position} {c : ℕ} → Out p c → g c ≡ false → Out (without g p) c
-without-out g u e = (u .0, without-stands g (u .1) e)
-
-without-nobody : (q : Position) → without (λ c. false) q ≡ q
-without-nobody [] = refl
-without-nobody (v ∷ q) = ap (λ (r : List ℕ). v ∷ r) (without-nobody q)
-
--- taking off none that is out changes nothing; and sets that agree on those out leave the same
-module _ (t : Track) (p : Position) (l : Laid t p) where
-  pub without-same : (f g : ℕ → Bool) → ((c : ℕ) → Out p c → f c ≡ g c) → without f p ≡ without g p
-  without-same f g h = map-ext (λ v. cond (f (carrierOf v)) 0 v) (λ v. cond (g (carrierOf v)) 0 v) p each
-    where
-      held : (v : ℕ) → List·Memᴰ v p → (v ≡ 0) ⊎ (v ≡ 0 → ⊥) → cond (f (carrierOf v)) 0 v ≡ cond (g (carrierOf v)) 0 v
-      held v m (inl e) = ap (λ (x : ℕ). cond (f (carrierOf x)) 0 x) e ∙ kept-zero (f (carrierOf 0)) ∙ sym (kept-zero (g (carrierOf 0))) ∙ ap (λ (x : ℕ). cond (g (carrierOf x)) 0 x) (sym e)
-      held v m (inr n) =
-          let i = mem-getD 0 m in
-          let o : Out p (carrierOf (at p (i .0))) = (2 * i .0 + headingOf (at p (i .0)), held-stands p (i .0) (i .1) (laid-numbered t p l (i .0) (λ q. n (sym (i .2) ∙ q)))) in
-          ap (λ (s : Bool). cond s 0 v) (ap (λ (x : ℕ). f (carrierOf x)) (sym (i .2)) ∙ h (carrierOf (at p (i .0))) o ∙ ap (λ (x : ℕ). g (carrierOf x)) (i .2))
-
-      each : (v : ℕ) → List·Memᴰ v p → cond (f (carrierOf v)) 0 v ≡ cond (g (carrierOf v)) 0 v
-      each v m = held v m (⊎-elim (λ e. inl (eqb-true v 0 e)) (λ e. inr (eqb-false v 0 e)) (decided (eqb v 0)))
-
-  pub without-none : (g : ℕ → Bool) → ((c : ℕ) → Out p c → g c ≡ false) → without g p ≡ p
-  without-none g h = without-same g (λ c. false) h ∙ without-nobody p
-
-  pub retire-none : (c : ℕ) → (Out p c → ⊥) → retire c p ≡ p
-  retire-none c n = without-none (eqb c) (λ d o. ne-eqb c d (λ e. n (subst (Out p) (sym e) o)))

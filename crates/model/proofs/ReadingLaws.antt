@@ -13,7 +13,7 @@ use Rattle.model.specs.Lists.{below, any, all, count}
 use Rattle.model.specs.Track.{zoneOf, headingOf, rev, start}
 use Rattle.model.specs.Position.{at, Stands, Once}
 use Rattle.model.specs.Labels.{label, parts}
-use Rattle.model.specs.Reading.{byte, pointsSaid, homeSaid, zonesSaid, endA, endB, carrierIn, headingIn, trackSaid, positionSaid, tooShort, wrongLength, wrongVersion, outOfRange, wrongCount, badZone, repeated, thin, apart, refusal}
+use Rattle.model.specs.Reading.{byte, pointsSaid, homeSaid, zonesSaid, endA, endB, carrierIn, headingIn, trackSaid, positionSaid, tooShort, wrongLength, wrongVersion, outOfRange, wrongCount, badZone, repeated, underTwo, apart, refusal}
 use Rattle.model.specs.Accepted.{Laid, Accepted, HangsTogether}
 use Rattle.model.proofs.BoolLaws.{both-ways, decided, and-left, and-right, and-both, or-false-left, or-false-right}
 use Rattle.model.proofs.ListLaws.{length-below, any-below-false, below-any, all-below, all-below-false}
@@ -31,7 +31,7 @@ pub record NoRow (b : List ℕ) : Type 0 where
   pub zone-count : wrongCount b ≡ false
   pub zones : any (badZone b) (below (zonesSaid b)) ≡ false
   pub repeats : any (repeated b) (below (zonesSaid b)) ≡ false
-  pub thins : any (thin b) (below (pointsSaid b)) ≡ false
+  pub two-each : any (underTwo b) (below (pointsSaid b)) ≡ false
 
 cond-past : (t : Bool) (r x k : ℕ) → (r ≡ k → ⊥) → cond t r x ≡ k → (t ≡ false) × (x ≡ k)
 cond-past true r x k n e = absurd (n e)
@@ -50,7 +50,7 @@ module _ (b : List ℕ) where
   row9 = cond (apart b) 9 0
 
   row8 : ℕ
-  row8 = cond (any (thin b) (below (pointsSaid b))) 8 row9
+  row8 = cond (any (underTwo b) (below (pointsSaid b))) 8 row9
 
   row7 : ℕ
   row7 = cond (any (repeated b) (below (zonesSaid b))) 7 row8
@@ -85,7 +85,7 @@ module _ (b : List ℕ) where
       let r5 = cond-past (wrongCount b) 5 row6 k (none 5 (omega arith) (omega arith)) (r4 .1) in
       let r6 = cond-past (any (badZone b) (below (zonesSaid b))) 6 row7 k (none 6 (omega arith) (omega arith)) (r5 .1) in
       let r7 = cond-past (any (repeated b) (below (zonesSaid b))) 7 row8 k (none 7 (omega arith) (omega arith)) (r6 .1) in
-      let r8 = cond-past (any (thin b) (below (pointsSaid b))) 8 row9 k (none 8 (omega arith) (omega arith)) (r7 .1) in (
+      let r8 = cond-past (any (underTwo b) (below (pointsSaid b))) 8 row9 k (none 8 (omega arith) (omega arith)) (r7 .1) in (
         record {
           long = r1 .0;
           length-said = r2 .0;
@@ -94,7 +94,7 @@ module _ (b : List ℕ) where
           zone-count = r5 .0;
           zones = r6 .0;
           repeats = r7 .0;
-          thins = r8 .0;
+          two-each = r8 .0;
         },
         r8 .1,
       )
@@ -120,7 +120,7 @@ module _ (b : List ℕ) where
       (cond-small (wrongCount b) 5 _ (omega arith)
       (cond-small (any (badZone b) (below (zonesSaid b))) 6 _ (omega arith)
       (cond-small (any (repeated b) (below (zonesSaid b))) 7 _ (omega arith)
-      (cond-small (any (thin b) (below (pointsSaid b))) 8 _ (omega arith)
+      (cond-small (any (underTwo b) (below (pointsSaid b))) 8 _ (omega arith)
       (cond-small (apart b) 9 0 (omega arith) (omega arith)))))))))
 
 -- row 4
@@ -137,12 +137,12 @@ pub record GoodZone (b : List ℕ) (z : ℕ) : Type 0 where
   pub b-in : endB b z < pointsSaid b
   pub differ : endA b z ≡ endB b z → ⊥
   pub heading : headingIn b z ≤ 1
-  pub plain : carrierIn b z ≡ 0 → headingIn b z ≡ 1 → ⊥
+  pub free-heading : carrierIn b z ≡ 0 → headingIn b z ≡ 1 → ⊥
 
-module _ (b : List ℕ) (n : NoRow b) where
-  pub in-range : InRange b
+module _ (b : List ℕ) where
+  pub in-range : outOfRange b ≡ false → InRange b
   unfolding outOfRange
-  in-range = record {
+  in-range range = record {
     points-least = leb-true 2 (pointsSaid b) (and-left (leb 2 (pointsSaid b)) rest1 whole);
     points-most = leb-true (pointsSaid b) 64 (and-left (leb (pointsSaid b) 64) rest2 two);
     home-in = ltb-true (homeSaid b) (pointsSaid b) (and-left (ltb (homeSaid b) (pointsSaid b)) rest3 three);
@@ -160,7 +160,7 @@ module _ (b : List ℕ) (n : NoRow b) where
       rest1 = leb (pointsSaid b) 64 && rest2
 
       whole : (leb 2 (pointsSaid b) && rest1) ≡ true
-      whole = not-false (leb 2 (pointsSaid b) && rest1) (n .range)
+      whole = not-false (leb 2 (pointsSaid b) && rest1) range
 
       two : rest1 ≡ true
       two = and-right (leb 2 (pointsSaid b)) rest1 whole
@@ -171,14 +171,14 @@ module _ (b : List ℕ) (n : NoRow b) where
       four : rest3 ≡ true
       four = and-right (ltb (homeSaid b) (pointsSaid b)) rest3 three
 
-  pub good-zone : (z : ℕ) → z < zonesSaid b → GoodZone b z
+  pub good-zone : any (badZone b) (below (zonesSaid b)) ≡ false → (z : ℕ) → z < zonesSaid b → GoodZone b z
   unfolding badZone
-  good-zone z h = record {
+  good-zone zones z h = record {
     a-in = ltb-true (endA b z) (pointsSaid b) (not-false (ltb (endA b z) (pointsSaid b)) (or-false-left (not (ltb (endA b z) (pointsSaid b))) r1 f1));
     b-in = ltb-true (endB b z) (pointsSaid b) (not-false (ltb (endB b z) (pointsSaid b)) (or-false-left (not (ltb (endB b z) (pointsSaid b))) r2 f2));
     differ = eqb-false (endA b z) (endB b z) (or-false-left (eqb (endA b z) (endB b z)) r3 f3);
     heading = leb-true (headingIn b z) 1 (not-false (leb (headingIn b z) 1) (or-false-left (not (leb (headingIn b z) 1)) r4 f4));
-    plain = λ c g. both-ways (and-both (eqb (carrierIn b z) 0) (eqb (headingIn b z) 1) (eq-eqb (carrierIn b z) 0 c) (eq-eqb (headingIn b z) 1 g)) (or-false-right (not (leb (headingIn b z) 1)) r4 f4);
+    free-heading = λ c g. both-ways (and-both (eqb (carrierIn b z) 0) (eqb (headingIn b z) 1) (eq-eqb (carrierIn b z) 0 c) (eq-eqb (headingIn b z) 1 g)) (or-false-right (not (leb (headingIn b z) 1)) r4 f4);
   }
     where
       r4 : Bool
@@ -194,7 +194,7 @@ module _ (b : List ℕ) (n : NoRow b) where
       r1 = not (ltb (endB b z) (pointsSaid b)) || r2
 
       f1 : (not (ltb (endA b z) (pointsSaid b)) || r1) ≡ false
-      f1 = any-below-false (badZone b) (zonesSaid b) (n .zones) z h
+      f1 = any-below-false (badZone b) (zonesSaid b) zones z h
 
       f2 : r1 ≡ false
       f2 = or-false-right (not (ltb (endA b z) (pointsSaid b))) r1 f1
@@ -205,6 +205,7 @@ module _ (b : List ℕ) (n : NoRow b) where
       f4 : r3 ≡ false
       f4 = or-false-right (eqb (endA b z) (endB b z)) r3 f3
 
+module _ (b : List ℕ) (n : NoRow b) where
   -- row 7: no carrier in two zones
   pub carrier-once : (y z : ℕ) → y < z → z < zonesSaid b → (carrierIn b z ≡ 0 → ⊥) → carrierIn b y ≡ carrierIn b z → ⊥
   unfolding repeated
@@ -220,12 +221,12 @@ module _ (b : List ℕ) (n : NoRow b) where
       twice = and-both (not (eqb (carrierIn b z) 0)) (any same (below z)) (ap not (ne-eqb (carrierIn b z) 0 m)) earlier
 
   -- row 8
-  pub not-thin : (p : ℕ) → p < pointsSaid b → (p ≡ homeSaid b → ⊥) → 2 ≤ count (eqb p) (trackSaid b .ends)
-  unfolding thin
-  not-thin p h m = go (decided (ltb (count (eqb p) (trackSaid b .ends)) 2))
+  pub not-under-two : (p : ℕ) → p < pointsSaid b → (p ≡ homeSaid b → ⊥) → 2 ≤ count (eqb p) (trackSaid b .ends)
+  unfolding underTwo
+  not-under-two p h m = go (decided (ltb (count (eqb p) (trackSaid b .ends)) 2))
     where
       go : (ltb (count (eqb p) (trackSaid b .ends)) 2 ≡ true) ⊎ (ltb (count (eqb p) (trackSaid b .ends)) 2 ≡ false) → 2 ≤ count (eqb p) (trackSaid b .ends)
-      go (inl e) = both-ways (and-both (not (eqb p (homeSaid b))) (ltb (count (eqb p) (trackSaid b .ends)) 2) (ap not (ne-eqb p (homeSaid b) m)) e) (any-below-false (thin b) (pointsSaid b) (n .thins) p h)
+      go (inl e) = both-ways (and-both (not (eqb p (homeSaid b))) (ltb (count (eqb p) (trackSaid b .ends)) 2) (ap not (ne-eqb p (homeSaid b) m)) e) (any-below-false (underTwo b) (pointsSaid b) (n .two-each) p h)
       go (inr e) = ltb-false (count (eqb p) (trackSaid b .ends)) 2 e
 
 -- what the bytes say of the track and the position
@@ -269,34 +270,27 @@ module _ (b : List ℕ) where
   unfolding trackSaid
   length-ends = length-map (below (2 * zonesSaid b)) (λ w. byte b (4 * (w / 2) + w % 2 + 6)) ∙ length-below (2 * zonesSaid b)
 
-  pub points-said : trackSaid b .points ≡ pointsSaid b
-  unfolding trackSaid
-  points-said = refl
-
-  pub home-said : trackSaid b .home ≡ homeSaid b
-  unfolding trackSaid
-  home-said = refl
-
   pub zones-said : trackSaid b .zones ≡ zonesSaid b
   unfolding trackSaid
   zones-said = refl
 
+-- row 6 of words
+pub start-in : (b : List ℕ) → any (badZone b) (below (zonesSaid b)) ≡ false → (w : ℕ) → w < 2 * zonesSaid b → start (trackSaid b) w < pointsSaid b
+start-in b zones w h = go (heading-cases b w)
+  where
+    good : GoodZone b (zoneOf w)
+    good = good-zone b zones (zoneOf w) (zone-below (zonesSaid b) w h)
+
+    go : (headingOf w ≡ 0) ⊎ (headingOf w ≡ 1) → start (trackSaid b) w < pointsSaid b
+    go (inl e) = rw (start-a b w h e) (good .a-in)
+    go (inr e) = rw (start-b b w h e) (good .b-in)
+
 module _ (b : List ℕ) (n : NoRow b) where
-  start-in : (w : ℕ) → w < 2 * zonesSaid b → start (trackSaid b) w < pointsSaid b
-  start-in w h = go (heading-cases b w)
-    where
-      good : GoodZone b (zoneOf w)
-      good = good-zone b n (zoneOf w) (zone-below (zonesSaid b) w h)
-
-      go : (headingOf w ≡ 0) ⊎ (headingOf w ≡ 1) → start (trackSaid b) w < pointsSaid b
-      go (inl e) = rw (start-a b w h e) (good .a-in)
-      go (inr e) = rw (start-b b w h e) (good .b-in)
-
   ends-apart : (w : ℕ) → w < 2 * zonesSaid b → start (trackSaid b) w ≡ start (trackSaid b) (rev w) → ⊥
   ends-apart w h q = go (heading-cases b w)
     where
       good : GoodZone b (zoneOf w)
-      good = good-zone b n (zoneOf w) (zone-below (zonesSaid b) w h)
+      good = good-zone b (n .zones) (zoneOf w) (zone-below (zonesSaid b) w h)
 
       k : rev w < 2 * zonesSaid b
       k = rev-below (zonesSaid b) w h
@@ -313,7 +307,7 @@ module _ (b : List ℕ) (n : NoRow b) where
   stands-said c w s =
       let h : zoneOf w < zonesSaid b = rw length-position at (s .inside) in
       let e : 2 * carrierIn b (zoneOf w) + headingIn b (zoneOf w) ≡ 2 * c + headingOf w = sym (at-said b (zoneOf w) h) ∙ s .holds in
-      let g : headingIn b (zoneOf w) ≤ 1 = good-zone b n (zoneOf w) h .heading in
+      let g : headingIn b (zoneOf w) ≤ 1 = good-zone b (n .zones) (zoneOf w) h .heading in
       (h, omega arith, omega arith)
 
   once-said : Once (positionSaid b)
@@ -338,23 +332,23 @@ module _ (b : List ℕ) (n : NoRow b) where
   zone-inside : (z : ℕ) → (z < zonesSaid b) ⊎ (zonesSaid b ≤ z)
   zone-inside z = ⊎-elim (λ e. inl (ltb-true z (zonesSaid b) e)) (λ e. inr (ltb-false z (zonesSaid b) e)) (decided (ltb z (zonesSaid b)))
 
-  plain-said : (z : ℕ) → at (positionSaid b) z ≡ 1 → ⊥
-  plain-said z e = go (zone-inside z)
+  free-heading-said : (z : ℕ) → at (positionSaid b) z ≡ 1 → ⊥
+  free-heading-said z e = go (zone-inside z)
     where
       go : (z < zonesSaid b) ⊎ (zonesSaid b ≤ z) → ⊥
       go (inl h) =
           let q : 2 * carrierIn b z + headingIn b z ≡ 1 = sym (at-said b z h) ∙ e in
-          good-zone b n z h .plain (omega arith) (omega arith)
+          good-zone b (n .zones) z h .free-heading (omega arith) (omega arith)
       go (inr h) = let q : at (positionSaid b) z ≡ 0 = at-past b z h in omega arith
 
   pub laid-said : Laid (trackSaid b) (positionSaid b)
   unfolding trackSaid
-  laid-said = record { each = length-position b; once = once-said; plain = plain-said; inside = start-in; home-in = in-range b n .home-in }
+  laid-said = record { each = length-position b; once = once-said; free-heading = free-heading-said; inside = start-in b (n .zones); home-in = in-range b (n .range) .home-in }
 
   -- row 9: the test is false exactly where every two points are linked
   hangs-said : apart b ≡ false → HangsTogether (trackSaid b)
   unfolding apart trackSaid
-  hangs-said together p q h k = linked-mono (trackSaid b) (λ z _ _. tt) (parts-linked (trackSaid b) start-in (λ z. true) p q h k (of-home p h ∙ sym (of-home q k)))
+  hangs-said together p q h k = linked-mono (trackSaid b) (λ z _ _. tt) (parts-linked (trackSaid b) (start-in b (n .zones)) (λ z. true) p q h k (of-home p h ∙ sym (of-home q k)))
     where
       ls : List ℕ
       ls = parts (trackSaid b) (λ z. true)
@@ -370,7 +364,7 @@ module _ (b : List ℕ) (n : NoRow b) where
   apart-said test hangs =
       let x = all-below-false (λ r. eqb (label ls r) (label ls (homeSaid b))) (pointsSaid b) (not-true (all (λ r. eqb (label ls r) (label ls (homeSaid b))) (below (pointsSaid b))) test) in
       eqb-false (label ls (x .0)) (label ls (homeSaid b)) (x .2)
-      (linked-parts (trackSaid b) start-in (λ z. true) (x .0) (homeSaid b) (x .1) (linked-mono (trackSaid b) (λ z _ _. refl) (hangs (x .0) (homeSaid b) (x .1) (in-range b n .home-in))))
+      (linked-parts (trackSaid b) (start-in b (n .zones)) (λ z. true) (x .0) (homeSaid b) (x .1) (linked-mono (trackSaid b) (λ z _ _. refl) (hangs (x .0) (homeSaid b) (x .1) (in-range b (n .range) .home-in))))
     where
       ls : List ℕ
       ls = parts (trackSaid b) (λ z. true)
@@ -382,7 +376,7 @@ module _ (b : List ℕ) (n : NoRow b) where
       go (inl h) =
           let q : at (positionSaid b) z ≡ 2 * carrierIn b z + headingIn b z = at-said b z h in
           let k : carrierIn b z < 256 = bytes (4 * z + 8) in
-          let g : headingIn b z ≤ 1 = good-zone b n z h .heading in
+          let g : headingIn b z ≤ 1 = good-zone b (n .zones) z h .heading in
           omega arith
       go (inr h) = let q : at (positionSaid b) z ≡ 0 = at-past b z h in omega arith
 
@@ -391,7 +385,7 @@ pub accepted : (b : List ℕ) → ((i : ℕ) → getD b i 0 < 256) → refusal b
 unfolding trackSaid
 accepted b bytes e =
     let n : NoRow b = no-row b e in
-    let r : InRange b = in-range b n in
+    let r : InRange b = in-range b (n .range) in
     record {
       laid = laid-said b n;
       points-least = r .points-least;
@@ -401,7 +395,7 @@ accepted b bytes e =
       ends-count = length-ends b;
       ends-differ = ends-apart b n;
       numbers = numbers-said b n bytes;
-      two-zones = not-thin b n;
+      two-zones = not-under-two b n;
       hangs = hangs-said b n (together b e);
     }
 

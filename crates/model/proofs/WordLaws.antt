@@ -19,9 +19,6 @@ heading-rev w = omega arith
 pub rev-rev : (w : ℕ) → rev (rev w) ≡ w
 rev-rev w = omega arith
 
-pub rev-differs : (w : ℕ) → rev w ≡ w → ⊥
-rev-differs w e = omega arith
-
 pub rev-below : (n w : ℕ) → w < 2 * n → rev w < 2 * n
 rev-below n w h = omega arith
 

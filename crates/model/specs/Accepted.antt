@@ -12,7 +12,7 @@ pub record Laid (t : Track) (p : Position) : Type 0 where
   pub each : length p ≡ t .zones
   pub once : Once p
   -- a free zone has heading 0
-  pub plain : (z : ℕ) → at p z ≡ 1 → ⊥
+  pub free-heading : (z : ℕ) → at p z ≡ 1 → ⊥
   pub inside : (w : ℕ) → w < 2 * t .zones → start t w < t .points
   pub home-in : t .home < t .points
 

@@ -1,9 +1,9 @@
 -- Short functions on lists that the definitions are written with.
-use Prim.Native.Nat.{ℕ, zero, suc, _<_}
-use mathlib.Core.List.{List, [], _∷_, List·Memᴰ}
+use Prim.Native.Nat.{ℕ, zero, suc, _+_, _<_}
+use mathlib.Core.List.{List, [], _∷_, _++_, List·Memᴰ}
 use mathlib.Core.Bool.{Bool, true, false, cond, _&&_, _||_}
 use mathlib.Core.Option.{Option, none, some}
-use lib.ListN.{length}
+use lib.ListN.{length, take, drop}
 use lib.Dec.{leb}
 
 -- n numbers in a row, k first
@@ -72,3 +72,10 @@ ascending (a ∷ l) = insert a (ascending l)
 abbrev pub Ascending : List ℕ → Type 0
 Ascending [] = Unit {0}
 Ascending (a ∷ l) = ((b : ℕ) → List·Memᴰ b l → a < b) × Ascending l
+
+-- what was lent, with these numbers written from its start, or from a place on; the rest stays as it was
+abbrev pub overwritten : List ℕ → List ℕ → List ℕ
+overwritten written lent = written ++ drop (length written) lent
+
+abbrev pub overwrittenAt : ℕ → List ℕ → List ℕ → List ℕ
+overwrittenAt from written lent = take from lent ++ (written ++ drop (from + length written) lent)

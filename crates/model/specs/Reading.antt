@@ -1,5 +1,5 @@
 -- The board in bytes: the refusals 1 to 9 in rising order, or a track with a first position.
-use Prim.Native.Nat.{ℕ, _+_, _-_, _*_, _/_, _%_}
+use Prim.Native.Nat.{ℕ, _+_, _*_, _/_, _%_}
 use mathlib.Core.List.{List, map}
 use mathlib.Core.Bool.{Bool, true, cond, not, _&&_, _||_}
 use lib.ListN.{length, getD}
@@ -85,8 +85,8 @@ module _ (b : List ℕ) where
   repeated z = not (eqb (carrierIn z) 0) && any (λ y. eqb (carrierIn y) (carrierIn z)) (below z)
 
   -- row 8, of one point: another than home, and under two zones. A zone counts once for each of its ends at the point.
-  unfoldable pub thin : ℕ → Bool
-  thin p = not (eqb p homeSaid) && ltb (count (eqb p) (trackSaid .ends)) 2
+  unfoldable pub underTwo : ℕ → Bool
+  underTwo p = not (eqb p homeSaid) && ltb (count (eqb p) (trackSaid .ends)) 2
 
   -- row 9: points that don't hang together
   unfoldable pub apart : Bool
@@ -104,5 +104,5 @@ module _ (b : List ℕ) where
       (cond wrongCount 5
       (cond (any badZone (below zonesSaid)) 6
       (cond (any repeated (below zonesSaid)) 7
-      (cond (any thin (below pointsSaid)) 8
+      (cond (any underTwo (below pointsSaid)) 8
       (cond apart 9 0))))))))

@@ -18,7 +18,7 @@ use Rattle.rules.specs.Tries.{Move, into, home, Allowed, enters, arrives, Moved
 module _ {t : Track} where
   -- what a move leaves is laid
   pub allowed-laid : {p q : Position} {m : Move} → Laid t p → Allowed t p m q → Laid t q
-  allowed-laid {p} laid (enters {c} {w} u s word free touches) = moved-laid t p laid c u w s free word
+  allowed-laid {p} laid (enters {c} {w} u s word free touches) = moved-laid t p laid c u w s word
   allowed-laid {p} laid (arrives {c} u s e) = laid-retire t c p laid
 
   pub moved-keeps-laid : {p q : Position} {m : Move} → Laid t p → Moved t p m q → Laid t q

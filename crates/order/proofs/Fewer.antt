@@ -1,4 +1,4 @@
--- R1, fewer carriers, more routes: a route of a carrier is one after any other carriers are taken off.
+-- Fewer carriers, more routes: a route of a carrier is one after any other carriers are taken off.
 -- And a carrier that is not out in a position within may be taken off before.
 use Prim.Native.Nat.{ℕ, _+_, _*_, _<_}
 use mathlib.Core.Path.{_≡_, refl, sym, ap, _∙_}

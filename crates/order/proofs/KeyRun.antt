@@ -1,4 +1,4 @@
--- R2: the key's plan retires the lowest-numbered carrier that can go, by its least route, up to a position in which none can go.
+-- The key's plan retires the lowest-numbered carrier that can go, by its least route, up to a position in which none can go.
 -- By induction over the number of turns left, which is at least the number of carriers out.
 use Prim.Native.Nat.{ℕ, zero, suc, _+_, _≤_, _<_}
 use mathlib.Core.Path.{_≡_, refl}

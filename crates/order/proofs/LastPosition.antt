@@ -1,5 +1,5 @@
--- R3 and R4 over positions: however tried, what is out in a last position stays; and where none can go, only what is out in the last one is out.
--- By induction over the tries and over the retirements, with R1 at each step.
+-- However tried, what is out in a last position stays; and where none can go, only what is out in the last one is out.
+-- By induction over the tries and over the retirements, each step with the routes of positions within.
 use Prim.Native.Nat.{ℕ}
 use mathlib.Core.Path.{_≡_}
 use mathlib.Core.List.{List, map}
@@ -36,7 +36,7 @@ tries-of-retires Retires.done = Tries.none
 tries-of-retires (Retires.next {e = e} r rs) = Tries.more (went (e .words, r)) (tries-of-retires rs)
 
 module _ {t : Track} {last : Position} (ended : NoneCanGo t last) where
-  -- who can go is not out in a last position within, since by R1 it could go there too
+  -- who can go is not out in a last position within, since it could go there too by the same route
   pub goer-not-left : {p : Position} {c : ℕ} {r : List ℕ} → Once p → Within last p → Route t p c r → Out last c → ⊥
   goer-not-left {c = c} {r} once a g out = ended c (r, route-within once a out g)
 
@@ -44,11 +44,11 @@ module _ {t : Track} {last : Position} (ended : NoneCanGo t last) where
   stays-try {c = c} once a (went (r, g)) = within-retire c a (goer-numbered g) (goer-not-left once a g)
   stays-try once a (refused n) = a
 
-  -- R3: the last position stays within all that tries lead to
+  -- the last position stays within all that tries lead to
   pub stays-tries : {p q : Position} {cs : List ℕ} → Once p → Within last p → Tries t p cs q → Within last q
   stays-tries once a Tries.none = a
   stays-tries once a (Tries.more y ts) = stays-tries (once-within (within-try y) once) (stays-try once a y) ts
 
-  -- R4: a last position is within what retirements from a position around it lead to
+  -- a last position is within what retirements from a position around it lead to
   pub within-last : {p q : Position} {es : List Entry} → Once p → Within last p → Retires t p es q → Within last q
   within-last once a rs = stays-tries once a (tries-of-retires rs)

@@ -1,4 +1,4 @@
--- R3, R4 and R5 of the key's named carriers: they stay out however tried, none else is left, and they are the blocked ones.
+-- The key's named carriers: they stay out however tried, none else is left, and they are the blocked ones.
 -- All from the key's last position, in which none can go, and which stays within every position that tries lead to.
 use Prim.Native.Nat.{ℕ}
 use mathlib.Core.Path.{_≡_, refl, sym, _∙_}
@@ -59,7 +59,7 @@ module _ (t : Track) (p : Position) (laid : Laid t p) where
     pub last-stays : Within (run t p .last) q
     last-stays = stays-tries (run-ends t p laid) (laid .once) last-within ts
 
-    -- R3: however tried, each named carrier is out
+    -- however tried, each named carrier is out
     pub named-stays : {c : ℕ} → List·Memᴰ c (named t p) → Out q c
     named-stays m = let o = named-left t p .0 m in (o .0, stands-before last-stays (o .1))
 
@@ -71,7 +71,7 @@ module _ (t : Track) (p : Position) (laid : Laid t p) where
     end-within : NoneCanGo t q → Within q (run t p .last)
     end-within ended = within-last ended (laid .once) (within-tries ts) (run-retires t p laid)
 
-    -- R4: where none can go, only named carriers are out
+    -- where none can go, only named carriers are out
     pub left-named : NoneCanGo t q → {c : ℕ} → Out q c → List·Memᴰ c (named t p)
     left-named ended (w, s) = named-left t p .1 (w, stands-before (end-within ended) s)
 
@@ -79,7 +79,7 @@ module _ (t : Track) (p : Position) (laid : Laid t p) where
     pub one-end : NoneCanGo t q → q ≡ run t p .last
     one-end ended = within-both (end-within ended) last-stays
 
-  -- R5: the named carriers are the blocked ones
+  -- the named carriers are the blocked ones
   pub named-blocked : {c : ℕ} → List·Memᴰ c (named t p) → Blocked t p c
   named-blocked m = (named-out m, λ es q rs k. left-not-leaving (run-ends t p laid) (laid .once) last-within (named-left t p .0 m) rs k)
 

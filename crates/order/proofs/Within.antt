@@ -1,5 +1,5 @@
 -- One position is within another when each zone holds what it held there, or is free. Retirements and tries lead to positions within the first.
--- R1 in its general form: a route of a carrier stays a route in every position within, while the carrier is out there.
+-- A route of a carrier stays a route in every position within, while the carrier is out there.
 use Prim.Native.Nat.{ℕ, _+_, _*_}
 use mathlib.Core.Path.{_≡_, refl, sym, ap, _∙_}
 use mathlib.Core.List.{List}
@@ -72,11 +72,11 @@ pub laid-within : {t : Track} {q p : Position} → Within q p → Laid t p → L
 laid-within {t} {q} {p} a laid = record {
   each = a .as-long ∙ laid .each;
   once = once-within a (laid .once);
-  plain = λ z e. plain z e (a .kept z);
+  free-heading = λ z e. free-heading z e (a .kept z);
   inside = laid .inside;
   home-in = laid .home-in;
 }
   where
-    plain : (z : ℕ) → at q z ≡ 1 → (at q z ≡ at p z) ⊎ (at q z ≡ 0) → ⊥
-    plain z e (inl f) = laid .plain z (sym f ∙ e)
-    plain z e (inr f) = omega arith
+    free-heading : (z : ℕ) → at q z ≡ 1 → (at q z ≡ at p z) ⊎ (at q z ≡ 0) → ⊥
+    free-heading z e (inl f) = laid .free-heading z (sym f ∙ e)
+    free-heading z e (inr f) = omega arith

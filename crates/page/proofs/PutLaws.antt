@@ -8,15 +8,14 @@ use native.Mathlib.Omega.{arith}
 use lib.ListN.{length, take, drop, set, length-append, length-drop, take-append-drop}
 use lib.Seq.{length-take-le, take-length, take-at, drop-at, drop-drop, set-split, paste}
 use Rattle.page.specs.Page.{inRow}
-use Rattle.page.specs.Writing.{overwrittenAt, Room, Put, Begins}
+use Rattle.model.specs.Lists.{overwrittenAt}
+use Rattle.page.specs.Writing.{Room, Put, Begins}
 
 spread : (from : ℕ) (text page : List ℕ) → overwrittenAt from text page ≡ take from page ++ (text ++ drop (from + length text) page)
-unfolding overwrittenAt
 spread from text page = refl
 
 module _ (from : ℕ) (text page : List ℕ) (room : Room from text page) where
   front : overwrittenAt from text page ≡ (take from page ++ text) ++ drop (from + length text) page
-  unfolding overwrittenAt
   front = sym (append-assoc (take from page) text (drop (from + length text) page))
 
   length-front : length (take from page ++ text) ≡ from + length text
@@ -44,7 +43,6 @@ module _ (from : ℕ) (text page : List ℕ) (room : Room from text page) where
       ∙ sym (spread from (text ++ more) page)
 
 pub put-nothing : (from : ℕ) (page : List ℕ) → overwrittenAt from [] page ≡ page
-unfolding overwrittenAt
 put-nothing from page = let e : from + 0 ≡ from = omega arith in rw e (take-append-drop from page)
 
 -- as many bytes copied as the text has
@@ -54,7 +52,6 @@ pasted from text page =
 
 -- one byte stored
 pub put-byte : (from : ℕ) (b : ℕ) (page : List ℕ) → from < length page → Put from (b ∷ []) page (set page from b) (from + 1)
-unfolding overwrittenAt
 put-byte from b page h = record { written = rw add-one (set-split page from b h); place = refl }
 
 pub length-put : {from next : ℕ} {text before after : List ℕ} → Room from text before → Put from text before after next → length after ≡ length before
@@ -62,7 +59,6 @@ length-put {from} {text = text} {before = before} room p = ap length (p .written
 
 -- a text put from the first place on
 pub begins : {next : ℕ} {text before after : List ℕ} → Put 0 text before after next → Begins text before after next
-unfolding overwrittenAt
 begins {text = text} {before = before} p =
     let e : 0 + length text ≡ length text = omega arith in
     record { written = p .written ∙ ap (λ (n : ℕ). text ++ drop n before) e; bytes = p .place ∙ e }

@@ -6,13 +6,10 @@ use mathlib.Core.List.{List, [], _∷_, _++_}
 use mathlib.Core.Bool.{cond}
 use lib.ListN.{length, take, drop}
 use lib.Dec.{leb}
+use Rattle.model.specs.Lists.{overwritten, overwrittenAt}
 use Rattle.rules.specs.Routes.{Entry}
 use Rattle.rules.specs.Key.{planWords}
 use Rattle.page.specs.Page.{keyPage}
-
--- the page with the text over what stood there from the place `from` on
-unfoldable pub overwrittenAt : ℕ → List ℕ → List ℕ → List ℕ
-overwrittenAt from text page = take from page ++ (text ++ drop (from + length text) page)
 
 -- the text fits in the page from this place on
 pub record Room (from : ℕ) (text page : List ℕ) : Type 0 where
@@ -25,7 +22,7 @@ pub record Put (from : ℕ) (text before after : List ℕ) (next : ℕ) : Type 0
 
 -- the page begins with the text, of n bytes, and past it stays as it was
 pub record Begins (text before after : List ℕ) (n : ℕ) : Type 0 where
-  pub written : after ≡ text ++ drop (length text) before
+  pub written : after ≡ overwritten text before
   pub bytes : n ≡ length text
 
 -- the entries that the words of a plan hold; there are no more entries than n

@@ -1,7 +1,7 @@
 -- A free part: what is grown from a point over free zones is the set of the points with its label, and its size and its zones say
 -- whether it holds a loop. The ways over free zones reach what is linked over them.
 use Prim.Native.Nat.{ℕ, _*_, _<_}
-use mathlib.Core.Path.{_≡_, sym, ap, ap₂, _∙_, subst}
+use mathlib.Core.Path.{_≡_, sym, ap, ap₂, _∙_}
 use mathlib.Core.List.{List}
 use mathlib.Core.Bool.{Bool, true, false, _&&_}
 use native.Mathlib.Omega.{arith}
@@ -15,13 +15,12 @@ use Rattle.model.specs.Position.{Position, isFree}
 use Rattle.model.specs.Labels.{label}
 use Rattle.model.proofs.BoolLaws.{not-true-false, same-test}
 use Rattle.model.proofs.CountLaws.{count-below-ext}
-use Rattle.model.proofs.LinkLaws.{linked-trans, linked-word, linked-below}
+use Rattle.model.proofs.LinkLaws.{linked-below}
 use Rattle.model.proofs.LabelLaws.{parts-linked, linked-parts}
 use Rattle.rules.specs.Collapse.{freeParts, loopIn}
 use Rattle.points.specs.Sets.{hasBit, Reach, Grown}
-use Rattle.points.specs.Sets.Reach.{here as there, on}
 use Rattle.points.proofs.SizeLaws.{count-within}
-use Rattle.points.proofs.WayLaws.{reach-on}
+use Rattle.points.proofs.LinkedLaws.{reach-linked, linked-reach}
 use Rattle.parts.specs.Ways.{Sized, goesOn, Over}
 use Rattle.parts.proofs.OneWord.{goes-free}
 
@@ -32,20 +31,12 @@ module _ {points zones : ℕ} {ends : List ℕ} {p : Position} (sized : Sized po
   abbrev ls : List ℕ
   ls = freeParts t p
 
-  -- what is reached over the ways is linked over free zones
-  reach-linked : {a b : ℕ} → Reach ways a b → Linked t (λ z. isFree p z ≡ true) a b
-  reach-linked there = here
-  reach-linked {a} (on {q = q} {r = r} k e) =
-      let w = o .sound q r e in
-      linked-trans t (reach-linked k)
-      (subst (λ (x : ℕ). Linked t (λ z. isFree p z ≡ true) x r) (w .3)
-      (subst (λ (x : ℕ). Linked t (λ z. isFree p z ≡ true) (getD ends (w .0) 0) x) (w .4)
-      (linked-word t (w .0) (w .1) (sym (goes-free ends p 0 (w .0)) ∙ w .2))))
+  -- what is reached over the ways is linked over free zones, and the other way round
+  linked : {a b : ℕ} → Reach ways a b → Linked t (λ z. isFree p z ≡ true) a b
+  linked = reach-linked t (isFree p) o (goes-free ends p 0)
 
-  linked-reach : {a b : ℕ} → Linked t (λ z. isFree p z ≡ true) a b → Reach ways a b
-  linked-reach here = there
-  linked-reach {a} {b} (over w h f e l) =
-      subst (λ (x : ℕ). Reach ways x b) e (reach-on (on there (o .whole w h (goes-free ends p 0 w ∙ f))) (linked-reach l))
+  reached : {a b : ℕ} → Linked t (λ z. isFree p z ≡ true) a b → Reach ways a b
+  reached = linked-reach t (isFree p) o (goes-free ends p 0)
 
   module _ {q part : ℕ} (h : q < points) (g : Grown ways q part) where
     -- the points grown are those with the label
@@ -53,11 +44,11 @@ module _ {points zones : ℕ} {ends : List ℕ} {p : Position} (sized : Sized po
     unfolding freeParts
     part-label r k =
         same-test (hasBit part r) (eqb (label ls r) (label ls q))
-        (λ e. eq-eqb (label ls r) (label ls q) (sym (linked-parts t (sized .inside) (isFree p) q r h (reach-linked (g .sound r e)))))
-        (λ e. g .whole r (linked-reach (parts-linked t (sized .inside) (isFree p) q r h k (sym (eqb-true (label ls r) (label ls q) e)))))
+        (λ e. eq-eqb (label ls r) (label ls q) (sym (linked-parts t (sized .inside) (isFree p) q r h (linked (g .sound r e)))))
+        (λ e. g .whole r (reached (parts-linked t (sized .inside) (isFree p) q r h k (sym (eqb-true (label ls r) (label ls q) e)))))
 
     pub part-inside : (r : ℕ) → hasBit part r ≡ true → r < points
-    part-inside r e = linked-below t (sized .inside) h (reach-linked (g .sound r e))
+    part-inside r e = linked-below t (sized .inside) h (linked (g .sound r e))
 
     -- the test of sizes is the test of a loop
     pub part-loop : leb (count (hasBit part) (below 64)) (count (λ z. isFree p z && hasBit part (getD ends (2 * z) 0)) (below zones)) ≡ loopIn t p ls (label ls q)

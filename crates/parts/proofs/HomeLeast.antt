@@ -1,5 +1,5 @@
--- Home's set is the least closed set: it is closed by its rules, and whatever is closed holds all of it.
--- So any word with its bits serves the theorems on the collapse.
+-- The points of a word with the bits of home's set are the least closed set, so the word serves the theorems on the collapse.
+-- The set is closed by its rules, and whatever is closed holds all of it, by induction on how a point came in.
 use Prim.Native.Nat.{ℕ}
 use mathlib.Core.Path.{_≡_}
 use mathlib.Core.Bool.{true}
@@ -17,13 +17,6 @@ module _ {t : Track} {p : Position} where
   home-within S closed (over-turning w h e i) = closed .over-turning w h e (home-within S closed i)
   home-within S closed (behind c w s i) = closed .behind c w s (home-within S closed i)
 
-  pub home-least : HomeSet t p (Home t p)
-  home-least = record {
-    closed = record { has-home = itself; over-free = over-free; over-turning = over-turning; behind = behind };
-    least = λ S closed q h i. home-within S closed i;
-  }
-
-  -- the same of the word with its bits
   pub word-least : {s : ℕ} → HomeWord t p s → HomeSet t p (λ q. hasBit s q ≡ true)
   word-least {s} home = record {
     closed = record {

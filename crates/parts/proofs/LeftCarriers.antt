@@ -1,20 +1,20 @@
 -- What is left of a position when every carrier that leaves at a point of home's set is taken off: the carriers that the collapse leaves.
--- By the theorem that any home's set gives the collapse's list, zone by zone; and the position is laid as before.
+-- By the theorem that any home's set gives the collapse's list, zone by zone.
 use Prim.Native.Nat.{ℕ, _<_}
-use mathlib.Core.Path.{_≡_, refl, sym, ap, _∙_, subst, subst₂}
+use mathlib.Core.Path.{_≡_, refl, sym, ap, _∙_, subst₂}
 use mathlib.Core.List.{List, [], _∷_, map}
-use mathlib.Core.Logic.{_⊎_, inl, inr, ⊎-elim}
+use mathlib.Core.Logic.{_⊎_, inl, inr}
 use mathlib.Core.Bool.{Bool, true, false, not, cond, _&&_, and-false}
 use native.Mathlib.Omega.{arith}
 use borrow.Author.Tests.{eqb-true, eqb-false, ne-eqb, ltb-true, ltb-false}
 use lib.ListN.{length, List·getD-eq-default}
 use lib.Dec.{eqb, ltb}
 use Rattle.model.specs.Lists.{below, consIf, keep, ascending}
-use Rattle.model.specs.Track.{Track, zoneOf}
-use Rattle.model.specs.Position.{Position, at, carrierOf, isFree, Stands, outs}
+use Rattle.model.specs.Track.{Track}
+use Rattle.model.specs.Position.{Position, at, carrierOf, isFree, outs}
 use Rattle.model.specs.Accepted.{Laid}
 use Rattle.model.proofs.BoolLaws.{decided}
-use Rattle.model.proofs.PositionLaws.{stands-held, laid-numbered}
+use Rattle.model.proofs.PositionLaws.{laid-numbered}
 use Rattle.rules.specs.Collapse.{left}
 use Rattle.blocking.proofs.AnySet.{left-by-test}
 use Rattle.points.specs.Sets.{hasBit}
@@ -36,22 +36,6 @@ left-cases ends s p z = go (decided (ltb z (length p)))
         inr (List·getD-eq-default (leftPosition ends s p) 0 (omega (arith, length-left ends s p, ltb-false z (length p) e)))
 
 module _ {t : Track} {p : Position} (laid : Laid t p) (s : ℕ) where
-  -- who stands in what is left stood there
-  pub left-stands : {c w : ℕ} → Stands (leftPosition (t .ends) s p) c w → Stands p c w
-  left-stands {c} {w} st = ⊎-elim (λ e. record { numbered = st .numbered; inside = inside; holds = sym e ∙ st .holds }) (λ e. absurd (stands-held st e)) (left-cases (t .ends) s p (zoneOf w))
-    where
-      inside : zoneOf w < length p
-      inside = subst (λ (n : ℕ). zoneOf w < n) (length-left (t .ends) s p) (st .inside)
-
-  pub left-laid : Laid t (leftPosition (t .ends) s p)
-  left-laid = record {
-    each = length-left (t .ends) s p ∙ laid .each;
-    once = λ c w v a b. laid .once c w v (left-stands a) (left-stands b);
-    plain = λ z e. ⊎-elim (λ q. laid .plain z (sym q ∙ e)) (λ q. let f : at (leftPosition (t .ends) s p) z ≡ 0 = q in omega arith) (left-cases (t .ends) s p z);
-    inside = laid .inside;
-    home-in = laid .home-in;
-  }
-
   -- a held zone whose carrier leaves outside the set
   abbrev outside : ℕ → Bool
   outside z = not (isFree p z) && not (hasBit s (leavesAt (t .ends) p z))

@@ -5,7 +5,6 @@ use mathlib.Core.Path.{_≡_, refl, sym, ap, _∙_, subst}
 use mathlib.Core.List.{List}
 use mathlib.Core.Logic.{_⊎_, inl, inr}
 use mathlib.Core.Bool.{Bool, true, false, cond}
-use native.Mathlib.Nat.{eq-or-lt-of-le}
 use native.Mathlib.Omega.{arith}
 use lib.ListN.{length, getD, set, length-set, length-map}
 use lib.Seq.{getD-set-same, getD-set-other, ext-getD}
@@ -15,6 +14,7 @@ use Rattle.model.specs.Position.{Position, at}
 use Rattle.model.proofs.ListLaws.{length-below}
 use Rattle.model.proofs.PlaceLaws.{getD-map-below}
 use Rattle.points.specs.Sets.{hasBit}
+use Rattle.points.proofs.OverLaws.{last}
 use Rattle.parts.specs.Home.{leavesAt, leftPosition}
 
 -- what the collapse leaves in a zone
@@ -43,14 +43,11 @@ module _ (ends : List ℕ) (s : ℕ) (p : Position) where
     leaves : {b : ℕ} → b ≡ leavesAt ends q z → b ≡ leavesAt ends p z
     leaves e = e ∙ ap (λ (v : ℕ). getD ends (rev (2 * z + headingOf v)) 0) (g .kept z (omega arith))
 
-    last : (x : ℕ) → x < z + 1 → (x ≡ z) ⊎ (x < z)
-    last x h = let l : x ≤ z = omega arith in eq-or-lt-of-le l
-
     module _ {b : ℕ} (e : b ≡ leavesAt ends q z) where
       pub taking-off : z < length q → hasBit s b ≡ true → Taking ends s p (z + 1) (set q z 0)
       taking-off l h = record {
         as-long = length-set q z 0 ∙ g .as-long;
-        done = λ x k. by x (last x k);
+        done = λ x k. by x (last k);
         kept = λ x k. getD-set-other q z x 0 0 (λ d. omega arith) ∙ g .kept x (omega arith);
       }
         where
@@ -61,7 +58,7 @@ module _ (ends : List ℕ) (s : ℕ) (p : Position) where
           by x (inr k) = getD-set-other q z x 0 0 (λ d. omega arith) ∙ g .done x k
 
       pub taking-not : hasBit s b ≡ false → Taking ends s p (z + 1) q
-      taking-not h = record { as-long = g .as-long; done = λ x k. by x (last x k); kept = λ x k. g .kept x (omega arith) }
+      taking-not h = record { as-long = g .as-long; done = λ x k. by x (last k); kept = λ x k. g .kept x (omega arith) }
         where
           by : (x : ℕ) → (x ≡ z) ⊎ (x < z) → at q x ≡ leftAt ends s p x
           by x (inl d) =

@@ -1,67 +1,31 @@
--- Ways made word by word: none at first, one more for a word that a set goes on over, the same for any other word.
--- From the laws of one way more; and no way leads out.
-use Prim.Native.Nat.{ℕ, _+_, _*_, _≤_, _<_}
-use mathlib.Core.Path.{_≡_, sym, ap, _∙_, subst}
+-- The ways of the words that a set goes on over, made word by word; and no way leads out.
+-- The laws of ways over any words, for the ends of a track.
+use Prim.Native.Nat.{ℕ, _+_, _*_, _<_}
+use mathlib.Core.Path.{_≡_, refl, sym, subst}
 use mathlib.Core.List.{List}
-use mathlib.Core.Logic.{_⊎_, inl, inr, ⊎-elim}
-use mathlib.Core.Bool.{Bool, true, false, true≢false}
-use native.Mathlib.Nat.{eq-or-lt-of-le, lt-of-lt-of-le}
+use mathlib.Core.Bool.{Bool, true, false}
+use native.Mathlib.Nat.{lt-of-lt-of-le}
 use native.Mathlib.Omega.{arith}
-use lib.ListN.{length, getD, replicate, length-replicate, length-set}
+use lib.ListN.{length, getD, replicate}
 use Rattle.model.specs.Track.{Track, rev}
 use Rattle.model.specs.Position.{Position}
-use Rattle.model.proofs.ListLaws.{getD-zeros}
 use Rattle.model.proofs.WordLaws.{rev-below}
-use Rattle.points.specs.Sets.{hasBit, Ways}
-use Rattle.points.proofs.BitLaws.{bit-none}
-use Rattle.points.proofs.WayLaws.{added, added-way, added-old, added-new}
+use Rattle.points.specs.Sets.{Ways}
+use Rattle.points.proofs.WayLaws.{added}
+use Rattle.points.proofs.OverLaws.{over-none as OverLaws·over-none, over-added as OverLaws·over-added, over-skip as OverLaws·over-skip, over-ways as OverLaws·over-ways}
 use Rattle.parts.specs.Home.{Ready}
 use Rattle.parts.specs.Ways.{Sized, endOf, Over}
 
 module _ (ends : List ℕ) (goes : ℕ → Bool) where
   pub over-none : Over ends goes 0 (replicate 64 0)
-  over-none = record {
-    long = length-replicate {A = ℕ} 64 0;
-    sound = λ a b e. absurd (true≢false (sym e ∙ ap (λ (x : ℕ). hasBit x b) (getD-zeros 64 a) ∙ bit-none b));
-    whole = λ w h g. absurd (omega arith);
-  }
+  over-none = OverLaws·over-none (λ w. getD ends w 0) (endOf ends) goes
 
   module _ (n : ℕ) (ways : List ℕ) (o : Over ends goes n ways) where
-    -- a word below n + 1 is below n or n itself
-    last : (w : ℕ) → w < n + 1 → (w ≡ n) ⊎ (w < n)
-    last w h = let l : w ≤ n = omega arith in eq-or-lt-of-le l
-
-    pub over-more : goes n ≡ true → getD ends n 0 < 64 → Over ends goes (n + 1) (added ways (getD ends n 0) (endOf ends n))
-    over-more g h = record {
-      long = length-set ways (getD ends n 0) _ ∙ o .long;
-      sound = λ a b e. from a b (added-way ways (getD ends n 0) (endOf ends n) inside a b e);
-      whole = λ w l k. to w k (last w l);
-    }
-      where
-        inside : getD ends n 0 < length ways
-        inside = subst (λ (k : ℕ). getD ends n 0 < k) (sym (o .long)) h
-
-        from : (a b : ℕ) → (hasBit (getD ways a 0) b ≡ true) ⊎ ((a ≡ getD ends n 0) × (b ≡ endOf ends n))
-            → (w : ℕ) × (w < n + 1) × (goes w ≡ true) × (getD ends w 0 ≡ a) × (endOf ends w ≡ b)
-        from a b (inl e) = let r = o .sound a b e in (r .0, omega (arith, r .1), r .2, r .3, r .4)
-        from a b (inr q) = (n, omega arith, g, sym (q .0), sym (q .1))
-
-        to : (w : ℕ) → goes w ≡ true → (w ≡ n) ⊎ (w < n) → hasBit (getD (added ways (getD ends n 0) (endOf ends n)) (getD ends w 0) 0) (endOf ends w) ≡ true
-        to w k (inl e) =
-            subst (λ (x : ℕ). hasBit (getD (added ways (getD ends n 0) (endOf ends n)) (getD ends x 0) 0) (endOf ends x) ≡ true) (sym e)
-            (added-new ways (getD ends n 0) (endOf ends n) inside)
-        to w k (inr l) = added-old ways (getD ends n 0) (endOf ends n) inside (getD ends w 0) (endOf ends w) (o .whole w l k)
-
-    -- as the code has it: b is where the word leaves, and more are the ways after
     pub over-added : goes n ≡ true → getD ends n 0 < 64 → {b : ℕ} → b ≡ endOf ends n → {more : List ℕ} → more ≡ added ways (getD ends n 0) b → Over ends goes (n + 1) more
-    over-added g h e k = subst (Over ends goes (n + 1)) (sym (k ∙ ap (added ways (getD ends n 0)) e)) (over-more g h)
+    over-added g h e = OverLaws·over-added (λ w. getD ends w 0) (endOf ends) goes n ways o g h {a = getD ends n 0} refl e
 
     pub over-skip : goes n ≡ false → Over ends goes (n + 1) ways
-    over-skip g = record {
-      long = o .long;
-      sound = λ a b e. let r = o .sound a b e in (r .0, omega (arith, r .1), r .2, r .3, r .4);
-      whole = λ w l k. ⊎-elim (λ e. absurd (true≢false (sym k ∙ ap goes e ∙ g))) (λ h. o .whole w h k) (last w l);
-    }
+    over-skip = OverLaws·over-skip (λ w. getD ends w 0) (endOf ends) goes n ways o
 
 -- the ends of words are among the points
 module _ {points zones : ℕ} {ends : List ℕ} {p : Position} (sized : Sized points zones ends p) where
@@ -73,12 +37,7 @@ module _ {points zones : ℕ} {ends : List ℕ} {p : Position} (sized : Sized po
   over-all {goes} {ways} o = subst (λ (n : ℕ). Over ends goes n ways) (sized .ends-count) o
 
   pub over-ways : {goes : ℕ → Bool} {ways : List ℕ} → Over ends goes (2 * zones) ways → Ways ways
-  over-ways o = record {
-    few = omega (arith, o .long);
-    inside = λ q r e.
-        let w = o .sound q r e in
-        omega (arith, o .long, w .4, end-inside (w .0) (w .1), sized .few);
-  }
+  over-ways {goes} {ways} o = OverLaws·over-ways (λ w. getD ends w 0) (endOf ends) goes (2 * zones) ways o (λ w h. lt-of-lt-of-le (end-inside w h) (sized .few))
 
   pub sized-whole : Sized 64 zones ends p
   sized-whole = record {

@@ -2,14 +2,14 @@
 use Prim.Native.Nat.{ℕ, _*_, _^_, _≤_, _<_}
 use mathlib.Core.List.{List}
 use mathlib.Core.Path.{_≡_}
-use mathlib.Core.Bool.{Bool, true, not, _&&_, _||_}
+use mathlib.Core.Bool.{Bool, not, _&&_, _||_}
 use lib.ListN.{length, getD}
 use lib.Dec.{eqb}
 use Rattle.model.specs.Track.{trackOf, zoneOf, headingOf, rev}
 use Rattle.model.specs.Position.{Position, at, isFree}
 use Rattle.model.specs.Labels.{label}
 use Rattle.rules.specs.Collapse.{freeParts, loopIn}
-use Rattle.points.specs.Sets.{hasBit}
+use Rattle.points.specs.Sets.{hasBit, Over as Sets·Over}
 
 -- two ends for each zone, each of them one of so many points
 pub record Sized (points zones : ℕ) (ends : List ℕ) (p : Position) : Type 0 where
@@ -27,11 +27,9 @@ endOf ends w = getD ends (rev w) 0
 unfoldable pub goesOn : List ℕ → Position → Bool → ℕ → ℕ → Bool
 goesOn ends p merging s w = isFree p (zoneOf w) || (merging && (not (eqb (headingOf w) (headingOf (at p (zoneOf w)))) || hasBit s (endOf ends w)))
 
--- the ways over the words below n that a set goes on over: from where such a word starts to where it leaves, and no others
-pub record Over (ends : List ℕ) (goes : ℕ → Bool) (n : ℕ) (ways : List ℕ) : Type 0 where
-  pub long : length ways ≡ 64
-  pub sound : (a b : ℕ) → hasBit (getD ways a 0) b ≡ true → (w : ℕ) × (w < n) × (goes w ≡ true) × (getD ends w 0 ≡ a) × (endOf ends w ≡ b)
-  pub whole : (w : ℕ) → w < n → goes w ≡ true → hasBit (getD ways (getD ends w 0) 0) (endOf ends w) ≡ true
+-- the ways over the words below n that a set goes on over
+abbrev pub Over : List ℕ → (ℕ → Bool) → ℕ → List ℕ → Type 0
+Over ends goes n ways = Sets·Over (λ w. getD ends w 0) (endOf ends) goes n ways
 
 -- the set of the points whose free part holds a loop, wherever home is
 pub record Looped (points zones : ℕ) (ends : List ℕ) (p : Position) (s : ℕ) : Type 0 where

@@ -2,7 +2,7 @@
 // and the carriers that the collapse leaves.
 ghost use mathlib.Core.Path.{_≡_};
 ghost use mathlib.Core.Bool.{false, _&&_};
-ghost use Prim.Native.Nat.{_*_, _-_, _<_};
+ghost use Prim.Native.Nat.{_*_, _<_};
 ghost use lib.ListN.{length, getD, replicate};
 ghost use Rattle.model.specs.Lists.{below, count};
 ghost use Rattle.model.specs.Track.{trackOf};
@@ -93,7 +93,7 @@ fn looped_points(points: usize, zones: usize, ends: &[usize], position: &[u32]) 
 
 // Home's set of points at the end of the collapse. Joining and merging are one growing: a joined zone is gone over both ways, and a
 // held one from where its carrier leaves to where it starts.
-pub fn home_set(points: usize, home: usize, zones: usize, ends: &[usize], position: &[u32]) -> u64
+fn home_set(points: usize, home: usize, zones: usize, ends: &[usize], position: &[u32]) -> u64
     requires { ⌜ Ready (trackOf points home zones (now ends)) (now position) ⌝ }
     ensures { λ r. ⌜ HomeWord (trackOf points home zones (now (ends .entry))) (now (position .entry)) r ⌝ }
 {

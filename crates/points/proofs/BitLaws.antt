@@ -151,9 +151,6 @@ bit-less s t p h g = bit-and s (2 ^ 64 - 1 - t) p ∙ go (ltb p 64) refl
 pub bit-with : (s p q : ℕ) → hasBit (bitOr s (2 ^ p)) q ≡ (hasBit s q || eqb q p)
 bit-with s p q = bit-or s (2 ^ p) q ∙ ap (λ (b : Bool). hasBit s q || b) (bit-alone p q)
 
-pub bit-cleared : (s p q : ℕ) → s < 2 ^ 64 → p < 64 → hasBit (less s (2 ^ p)) q ≡ (hasBit s q && not (eqb q p))
-bit-cleared s p q h l = bit-less s (2 ^ p) q h (pow-lt l) ∙ ap (λ (b : Bool). hasBit s q && not b) (bit-alone p q)
-
 pub less-word : (s t : ℕ) → s < 2 ^ 64 → less s t < 2 ^ 64
 unfolding less
 less-word s t h = lt-of-le-of-lt (and-le-l s (2 ^ 64 - 1 - t)) h

@@ -1,21 +1,18 @@
 -- Ways made one by one, and what is reached over them.
 -- A way more changes one bit of one word; what is reached goes by the steps.
-use Prim.Native.Nat.{ℕ, _^_, _≤_, _<_}
+use Prim.Native.Nat.{ℕ, _^_, _<_}
 use mathlib.Core.Path.{_≡_, refl, sym, ap, _∙_}
 use mathlib.Core.List.{List}
 use mathlib.Core.Bool.{Bool, true, false, _&&_, _||_, or-false, true≢false}
-use mathlib.Core.Logic.{_⊎_, inl, inr, ⊎-elim}
-use native.Mathlib.Omega.{arith}
+use mathlib.Core.Logic.{_⊎_, inl, inr}
 use borrow.Author.Tests.{eqb-true, eqb-false}
-use lib.ListN.{length, getD, set, replicate, length-set, length-replicate}
+use lib.ListN.{length, getD, set}
 use lib.Seq.{getD-set-same, getD-set-other}
 use lib.Dec.{eqb}
 use lib.Bits.{bitOr}
-use Rattle.model.proofs.BoolLaws.{same-test}
-use Rattle.model.proofs.ListLaws.{getD-zeros}
-use Rattle.points.specs.Sets.{hasBit, Ways, Reach, Grown}
+use Rattle.points.specs.Sets.{hasBit, Ways, Reach}
 use Rattle.points.specs.Sets.Reach.{here, on}
-use Rattle.points.proofs.BitLaws.{bit-or, bit-none, bit-alone, or-right, alone-there, same-bits, point-below}
+use Rattle.points.proofs.BitLaws.{bit-or, bit-alone, or-right, alone-there}
 
 -- one way more, from p to q
 abbrev pub added : List ℕ → ℕ → ℕ → List ℕ
@@ -54,25 +51,6 @@ pub added-new : (ways : List ℕ) (p q : ℕ) → p < length ways → hasBit (ge
 added-new ways p q l =
     ap (λ (x : ℕ). hasBit x q) (getD-set-same ways p (bitOr (getD ways p 0) (2 ^ q)) 0 l) ∙ or-right (getD ways p 0) (2 ^ q) q (alone-there q)
 
--- no way leads out: of none, of one more, of 64 words
-pub ways-none : (n : ℕ) → n ≤ 64 → Ways (replicate n 0)
-ways-none n l = record {
-  few = simp length-replicate l;
-  inside = λ q r e. absurd (true≢false (sym e ∙ ap (λ (x : ℕ). hasBit x r) (getD-zeros n q) ∙ bit-none r));
-}
-
-pub ways-added : (ways : List ℕ) (p q : ℕ) → Ways ways → p < length ways → q < length ways → Ways (added ways p q)
-ways-added ways p q w l k = record {
-  few = simp length-set (w .few);
-  inside = λ a b e. simp length-set (⊎-elim (w .inside a b) (λ t. omega arith) (added-way ways p q l a b e));
-}
-
-pub ways-whole : (ways : List ℕ) → length ways ≡ 64 → ((p : ℕ) → getD ways p 0 < 2 ^ 64) → Ways ways
-ways-whole ways l f = record {
-  few = omega arith;
-  inside = λ q r e. rw l (point-below 64 (getD ways q 0) r (f q) e);
-}
-
 -- what is reached is one of the points
 pub reach-inside : {ways : List ℕ} {p q : ℕ} → Ways ways → p < length ways → Reach ways p q → q < length ways
 reach-inside w l here = l
@@ -81,13 +59,3 @@ reach-inside w l (on {q = m} {r = r} k e) = w .inside m r e
 pub reach-on : {ways : List ℕ} {p q r : ℕ} → Reach ways p q → Reach ways q r → Reach ways p r
 reach-on k here = k
 reach-on k (on j e) = on (reach-on k j) e
-
--- more ways, more is reached
-pub reach-more : {more ways : List ℕ} {p q : ℕ} → ((a b : ℕ) → hasBit (getD ways a 0) b ≡ true → hasBit (getD more a 0) b ≡ true)
-    → Reach ways p q → Reach more p q
-reach-more f here = here
-reach-more f (on {q = m} {r = r} k e) = on (reach-more f k) (f m r e)
-
--- the set reached is one
-pub grown-one : {ways : List ℕ} {p r s : ℕ} → Grown ways p r → Grown ways p s → r ≡ s
-grown-one {r = r} {s = s} g h = same-bits 64 r s (g .word) (h .word) (λ q l. same-test (hasBit r q) (hasBit s q) (λ e. h .whole q (g .sound q e)) (λ e. g .whole q (h .sound q e)))

@@ -37,3 +37,9 @@ pub record Grown (ways : List ℕ) (p r : ℕ) : Type 0 where
   pub word : r < 2 ^ 64
   pub sound : (q : ℕ) → hasBit r q ≡ true → Reach ways p q
   pub whole : (q : ℕ) → Reach ways p q → hasBit r q ≡ true
+
+-- the ways over the words below n that pass a test: from where such a word starts to where it leaves, and no others
+pub record Over (start leave : ℕ → ℕ) (goes : ℕ → Bool) (n : ℕ) (ways : List ℕ) : Type 0 where
+  pub long : length ways ≡ 64
+  pub sound : (a b : ℕ) → hasBit (getD ways a 0) b ≡ true → (w : ℕ) × (w < n) × (goes w ≡ true) × (start w ≡ a) × (leave w ≡ b)
+  pub whole : (w : ℕ) → w < n → goes w ≡ true → hasBit (getD ways (start w) 0) (leave w) ≡ true

@@ -6,11 +6,12 @@ use mathlib.Core.List.{List, _∷_}
 use mathlib.Core.Bool.{Bool, true, false}
 use native.Mathlib.Omega.{arith}
 use native.Mathlib.Nat.{sub-zero}
+use lib.Arith.{le-zero}
 use lib.ListN.{length, getD, set, length-set}
 use lib.Seq.{getD-set-same, getD-set-other}
 use lib.Dec.{eqb}
 use borrow.Author.Tests.{eqb-true, eqb-false}
-use Rattle.model.specs.Lists.{countUp, below, consIf, keep}
+use Rattle.model.specs.Lists.{countUp, consIf, keep}
 use Rattle.queue.specs.Words.{Chain, stop, link, Unlinked, Linked}
 
 -- no word of a chain is below its bound
@@ -110,6 +111,3 @@ module _ {zones : ℕ} {ends first₀ after₀ : List ℕ} (ready : Unlinked zon
         subst (λ (m : ℕ). Chain after (2 * zones) 0 (getD first q 0) (keep (λ v. eqb (getD ends v 0) q) (countUp 0 m))) (sub-zero (2 * zones))
         (subst (λ (u : ℕ). Chain after (2 * zones) u (getD first q 0) (from ends (2 * zones) q u)) (le-zero h) (l .chains q b));
   }
-    where
-      le-zero : w ≤ 0 → w ≡ 0
-      le-zero e = omega arith

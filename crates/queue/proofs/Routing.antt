@@ -5,10 +5,13 @@ use mathlib.Core.Path.{_≡_, refl, sym, _∙_, ap, ap₂, subst}
 use mathlib.Core.List.{List, [], _∷_, _++_, append-assoc}
 use native.Mathlib.Omega.{arith}
 use native.Mathlib.Numerals.{add-one, add-two}
+use lib.Arith.{le-zero}
 use lib.ListN.{length, getD, take, drop, set, length-set, take-append-drop}
 use lib.Seq.{take-suc, append-snoc, set-at, length-take-le, take-suc-set, drop-set-lt}
 use Rattle.least.specs.Queue.{Queue, pathOnto, pathTo}
-use Rattle.queue.specs.Written.{routeTo, Falling, pasted, entryOf, EntryRoom, EntryWritten}
+use Rattle.least.proofs.PathLaws.{path-length}
+use Rattle.model.specs.Lists.{overwrittenAt}
+use Rattle.queue.specs.Written.{routeTo, Falling, entryOf, EntryRoom, EntryWritten}
 
 abbrev queue : List ℕ → List ℕ → Queue
 queue words froms = record { words = words; froms = froms }
@@ -29,10 +32,6 @@ module _ (words froms : List ℕ) where
   path-cons zero l h = absurd (omega arith)
   path-cons (suc j) l h = refl
 
-  path-last : (l : List ℕ) → pathOnto 1 (queue words froms) 0 l ≡ getD words 0 0 ∷ l
-  unfolding pathOnto
-  path-last l = refl
-
   path-more : (n j : ℕ) (l : List ℕ) → length l ≤ length (pathOnto n (queue words froms) j l)
   unfolding pathOnto
   path-more zero j l = omega arith
@@ -45,14 +44,6 @@ module _ (words froms : List ℕ) where
   path-longer n zero l = omega arith
   path-longer n (suc j) l = path-more n (getD froms (suc j) 0) (getD words (suc j) 0 ∷ l)
 
-  path-few : (n j : ℕ) (l : List ℕ) → length (pathOnto n (queue words froms) j l) ≤ n + length l
-  unfolding pathOnto
-  path-few zero j l = omega arith
-  path-few (suc n) zero l = omega arith
-  path-few (suc n) (suc j) l =
-      let r : length (pathOnto n (queue words froms) (getD froms (suc j) 0) (getD words (suc j) 0 ∷ l)) ≤ n + suc (length l) = path-few n (getD froms (suc j) 0) (getD words (suc j) 0 ∷ l) in
-      omega arith
-
 -- the count does not depend on the words
 path-count : (words words′ froms : List ℕ) (n j : ℕ) (l l′ : List ℕ) → length l ≡ length l′ → length (pathOnto n (queue words froms) j l) ≡ length (pathOnto n (queue words′ froms) j l′)
 unfolding pathOnto
@@ -63,11 +54,6 @@ path-count words words′ froms (suc n) (suc j) l l′ e = path-count words word
 pub route-count : (words words′ froms : List ℕ) (place : ℕ) → length (routeTo words froms place) ≡ length (routeTo words′ froms place)
 unfolding pathTo
 route-count words words′ froms place = path-count words words′ froms (suc place) place [] [] refl
-
--- no route to a place has more words than there are places up to it
-pub route-few : (words froms : List ℕ) (place : ℕ) → length (routeTo words froms place) ≤ suc place
-unfolding pathTo
-route-few words froms place = omega (arith, path-few words froms (suc place) place [])
 
 -- at place j with the words `left` passed
 pub record Back (words froms : List ℕ) (place j : ℕ) (left : List ℕ) : Type 0 where
@@ -95,10 +81,8 @@ module _ {words froms : List ℕ} {place : ℕ} where
     back-longer = subst (λ (r : List ℕ). length left < length r) (b .rest) (path-longer words froms j j left)
 
     pub back-done : j ≤ 0 → getD words 0 0 ∷ left ≡ routeTo words froms place
-    back-done h = sym (path-last words froms left) ∙ subst (λ (i : ℕ). pathOnto (suc i) (queue words froms) i left ≡ routeTo words froms place) (the-zero h) (b .rest)
-      where
-        the-zero : j ≤ 0 → j ≡ 0
-        the-zero e = omega arith
+    unfolding pathOnto
+    back-done h = subst (λ (i : ℕ). pathOnto (suc i) (queue words froms) i left ≡ routeTo words froms place) (le-zero h) (b .rest)
 
 -- the count, with n of the words counted
 pub record Counting (froms : List ℕ) (place n j : ℕ) : Type 0 where
@@ -172,7 +156,7 @@ module _ {words froms : List ℕ} {place : ℕ} {plan₀ : List ℕ} {end : ℕ}
     stored = store (getD words j 0);
   }
 
-  pub storing-done : j ≤ 0 → set plan (k - 1) (getD words 0 0) ≡ pasted (end - length (routeTo words froms place)) (routeTo words froms place) plan₀
+  pub storing-done : j ≤ 0 → set plan (k - 1) (getD words 0 0) ≡ overwrittenAt (end - length (routeTo words froms place)) (routeTo words froms place) plan₀
   storing-done h =
       store (getD words 0 0) ∙
       ap₂ (λ (a : ℕ) (r : List ℕ). take a plan₀ ++ (r ++ drop end plan₀)) before route ∙
@@ -206,7 +190,7 @@ module _ {carrier place : ℕ} {words froms plan : List ℕ} {k : ℕ} (e : Entr
   entry-count = counted ∙ route-count [] words froms place
 
   pub entry-few : n ≤ suc place
-  entry-few = omega (arith, entry-count, route-few words froms place)
+  entry-few = omega (arith, entry-count, path-length (queue words froms) place)
 
   pub entry-room : k + 2 + n ≤ length plan
   entry-room = omega (arith, entry-few, e .room)
@@ -215,13 +199,13 @@ module _ {carrier place : ℕ} {words froms plan : List ℕ} {k : ℕ} (e : Entr
   entry-fits = (omega (arith, entry-count), simp length-set entry-room)
 
   pub entry-written : {plan′ : List ℕ}
-      → plan′ ≡ pasted (k + 2 + n - length (routeTo words froms place)) (routeTo words froms place) (set (set plan k carrier) (k + 1) n)
+      → plan′ ≡ overwrittenAt (k + 2 + n - length (routeTo words froms place)) (routeTo words froms place) (set (set plan k carrier) (k + 1) n)
       → EntryWritten carrier place words froms plan k plan′ (k + 2 + n)
   entry-written {plan′} w = record {
     next = omega (arith, entry-count);
     stored =
         w ∙
-        ap (λ (i : ℕ). pasted i (routeTo words froms place) (set (set plan k carrier) (k + 1) n)) start ∙
+        ap (λ (i : ℕ). overwrittenAt i (routeTo words froms place) (set (set plan k carrier) (k + 1) n)) start ∙
         ap₂ (λ (a b : List ℕ). a ++ (routeTo words froms place ++ b)) (two-stored plan k carrier n (omega (arith, e .room))) (two-beyond plan k carrier n (omega (arith, e .room)) (k + 2 + length (routeTo words froms place)) (omega arith)) ∙
         append-assoc (take k plan) (carrier ∷ n ∷ []) (routeTo words froms place ++ drop (k + 2 + length (routeTo words froms place)) plan) ∙
         ap₂ (λ (m i : ℕ). take k plan ++ (carrier ∷ m ∷ (routeTo words froms place ++ drop i plan))) entry-count end;

@@ -1,8 +1,9 @@
 -- A route that a queue holds, read back from its last word, and an entry of the plan made of it.
 use Prim.Native.Nat.{ℕ, _+_, _≤_, _<_}
-use mathlib.Core.List.{List, _∷_, _++_}
+use mathlib.Core.List.{List, _∷_}
 use mathlib.Core.Path.{_≡_}
-use lib.ListN.{length, getD, take, drop}
+use lib.ListN.{length, getD}
+use Rattle.model.specs.Lists.{overwrittenAt}
 use Rattle.least.specs.Queue.{pathTo}
 
 -- the words from place 0 to a place of the queue in two arrays
@@ -20,10 +21,6 @@ pub record Readable (words froms : List ℕ) (place : ℕ) : Type 0 where
   pub inside : place < length words
   pub small : (j : ℕ) → j ≤ place → getD words j 0 < 65536
 
--- l with these words in the place of its own, from place k on
-abbrev pub pasted : ℕ → List ℕ → List ℕ → List ℕ
-pasted k vs l = take k l ++ (vs ++ drop (k + length vs) l)
-
 -- the carrier, the count of words, the words
 abbrev pub entryOf : ℕ → List ℕ → List ℕ
 entryOf c ws = c ∷ length ws ∷ ws
@@ -39,4 +36,4 @@ pub record EntryRoom (carrier place : ℕ) (words froms plan : List ℕ) (k : �
 -- what it gives: where the next entry starts, and the plan with this one in it
 pub record EntryWritten (carrier place : ℕ) (words froms plan : List ℕ) (k : ℕ) (plan′ : List ℕ) (r : ℕ) : Type 0 where
   pub next : r ≡ k + length (entryOf carrier (routeTo words froms place))
-  pub stored : plan′ ≡ pasted k (entryOf carrier (routeTo words froms place)) plan
+  pub stored : plan′ ≡ overwrittenAt k (entryOf carrier (routeTo words froms place)) plan

@@ -4,7 +4,7 @@ ghost use Prim.Native.Nat.{_/_, _<_};
 ghost use lib.ListN.{length};
 ghost use Rattle.queue.specs.Searching.{mayFollow, Offering, Offered};
 
-// Whether w is in another zone than `last`, which is free to the carrier.
+// Whether w is in another zone than `last`, and the zone of w is free to the carrier: nobody holds it, or the carrier itself does.
 fn may_follow(position: &[u32], carrier: u32, last: usize, w: usize) -> bool
     requires { ⌜ w / 2 < length (now position) ⌝ }
     ensures { λ r. ⌜ r ≡ mayFollow (now (position .entry)) carrier last w ⌝ }

@@ -3,7 +3,8 @@ ghost use mathlib.Core.Path.{_≡_};
 ghost use mathlib.Core.List.{[]};
 ghost use Prim.Native.Nat.{_-_, _≤_};
 ghost use lib.ListN.{length};
-ghost use Rattle.queue.specs.Written.{routeTo, Falling, Readable, pasted, EntryRoom, EntryWritten};
+ghost use Rattle.model.specs.Lists.{overwrittenAt};
+ghost use Rattle.queue.specs.Written.{routeTo, Falling, Readable, EntryRoom, EntryWritten};
 
 // How many words lead from place 0 to a place.
 fn route_length(froms: &[usize], place: usize) -> usize
@@ -23,7 +24,7 @@ fn route_length(froms: &[usize], place: usize) -> usize
 fn write_route(words: &[usize], froms: &[usize], place: usize, plan: &mut [u16], end: usize)
     requires { ⌜ Readable (now words) (now froms) place ⌝ }
     requires { ⌜ (length (routeTo (now words) (now froms) place) ≤ end) × (end ≤ length (now plan)) ⌝ }
-    ensures { λ r. ⌜ now (plan .exit) ≡ pasted (end - length (routeTo (now (words .entry)) (now (froms .entry)) place)) (routeTo (now (words .entry)) (now (froms .entry)) place) (now (plan .entry)) ⌝ }
+    ensures { λ r. ⌜ now (plan .exit) ≡ overwrittenAt (end - length (routeTo (now (words .entry)) (now (froms .entry)) place)) (routeTo (now (words .entry)) (now (froms .entry)) place) (now (plan .entry)) ⌝ }
 {
     let mut k = end;
     let mut j = place;

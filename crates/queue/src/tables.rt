@@ -2,7 +2,7 @@
 ghost use Rattle.queue.specs.Words.{Unlinked, Linked};
 
 // Links the words that start at each point, ascending: `first` has the first word of each point, `after` the next one after each word.
-// 2 × zones ends a chain.
+// A number of 2 × zones or more ends a chain.
 pub fn link_words(zones: usize, ends: &[usize], first: &mut [usize], after: &mut [usize])
     requires { ⌜ Unlinked zones (now ends) (now first) (now after) ⌝ }
     ensures { λ r. ⌜ Linked zones (now (ends .entry)) (now (first .exit)) (now (after .exit)) ⌝ }

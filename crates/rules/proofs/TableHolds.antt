@@ -1,9 +1,10 @@
--- Every row of the table of verdicts holds. The definitions compute: one `refl` for the whole table.
+-- Every row of the table of verdicts holds, and it has 49.
+-- The definitions compute: one `refl` for the whole table.
 use mathlib.Core.List.{map}
 use mathlib.Core.Path.{_≡_, refl}
 use lib.ListN.{length}
 use Rattle.model.specs.Labels.{parts, joinZones, join}
-use Rattle.model.specs.Reading.{refusal, tooShort, wrongLength, wrongVersion, outOfRange, wrongCount, badZone, repeated, thin, apart, trackSaid, positionSaid}
+use Rattle.model.specs.Reading.{refusal, tooShort, wrongLength, wrongVersion, outOfRange, wrongCount, badZone, repeated, underTwo, apart, trackSaid, positionSaid}
 use Rattle.rules.specs.Search.{leastFrom, wordsTo, goalIn}
 use Rattle.rules.specs.Key.{keyOf, keyIn, keyFor, named, run, runFor, firstToGo, leastRoute, zoneFor, nexts, planWords}
 use Rattle.rules.specs.Collapse.{collapseOf, collapseIn, left, mergeAll, mergeZone, joined, turns, loopIn, freeParts}
@@ -16,5 +17,5 @@ unfolding table
 table-rows = refl
 
 pub table-holds : map (λ (r : Row). answerOf (r .input)) table ≡ map (λ (r : Row). r .answer) table
-unfolding table headed boardK zonesFree boardT keyOf keyIn keyFor named run runFor firstToGo leastRoute zoneFor nexts planWords leastFrom wordsTo goalIn collapseOf collapseIn left mergeAll mergeZone joined turns loopIn freeParts parts joinZones join refusal tooShort wrongLength wrongVersion outOfRange wrongCount badZone repeated thin apart trackSaid positionSaid markOf markFor markClaim sameList markEntries markEntry markEnd endsHome byRules follow stillOut
+unfolding table headed boardK zonesFree boardT keyOf keyIn keyFor named run runFor firstToGo leastRoute zoneFor nexts planWords leastFrom wordsTo goalIn collapseOf collapseIn left mergeAll mergeZone joined turns loopIn freeParts parts joinZones join refusal tooShort wrongLength wrongVersion outOfRange wrongCount badZone repeated underTwo apart trackSaid positionSaid markOf markFor markClaim sameList markEntries markEntry markEnd endsHome byRules follow stillOut
 table-holds = refl

@@ -22,7 +22,7 @@ use Rattle.queue.specs.Searching.{queueIn, Queued, Offered}
 use Rattle.queue.specs.Written.{routeTo}
 use Rattle.queue.proofs.OfferLaws.{queued-more}
 use Rattle.queue.proofs.QueueArrays.{queued-most, queue-size, queue-word, route-in, queued-none}
-use Rattle.search.specs.Leaving.{homeward}
+use Rattle.search.specs.Leaving.{homeTrack}
 
 -- the search of one carrier, at place i
 pub record Looking (home zones : ℕ) (ends p : List ℕ) (c standing : ℕ) (words₀ froms₀ words froms seen : List ℕ) (n i : ℕ) : Type 0 where
@@ -32,8 +32,8 @@ pub record Looking (home zones : ℕ) (ends p : List ℕ) (c standing : ℕ) (wo
   pub same-froms : length froms ≡ length froms₀
   pub full : length seen ≡ 192
   pub search :
-      searchOn (nexts (homeward home zones ends) p c) (leavesHome (homeward home zones ends)) (2 * zones - i) (queueIn words froms n) i ≡
-      searchFrom (nexts (homeward home zones ends) p c) (leavesHome (homeward home zones ends)) (2 * zones) standing
+      searchOn (nexts (homeTrack home zones ends) p c) (leavesHome (homeTrack home zones ends)) (2 * zones - i) (queueIn words froms n) i ≡
+      searchFrom (nexts (homeTrack home zones ends) p c) (leavesHome (homeTrack home zones ends)) (2 * zones) standing
 
 pub looking-starts : (home zones : ℕ) (ends p : List ℕ) (c standing : ℕ) (words froms : List ℕ) → zones ≤ 96 → 2 * zones ≤ length words → 2 * zones ≤ length froms → standing < 2 * zones
     → Looking home zones ends p c standing (set words 0 standing) (set froms 0 0) (set words 0 standing) (set froms 0 0) (set (replicate 192 0) standing 1) 1 0
@@ -46,15 +46,15 @@ looking-starts home zones ends p c standing words froms s a b h = record {
   same-froms = refl;
   full = length-set (replicate 192 0) standing 1 ∙ length-replicate {A = ℕ} 192 0;
   search =
-      ap₂ (λ (k : ℕ) (q : Queue). searchOn (nexts (homeward home zones ends) p c) (leavesHome (homeward home zones ends)) k q 0) (sub-zero (2 * zones))
+      ap₂ (λ (k : ℕ) (q : Queue). searchOn (nexts (homeTrack home zones ends) p c) (leavesHome (homeTrack home zones ends)) k q 0) (sub-zero (2 * zones))
       (ap₂ (λ (v u : List ℕ). record { words = v; froms = u }) (take-suc-set words 0 standing (omega arith)) (take-suc-set froms 0 0 (omega arith))) ∙
-      sym (search-from (nexts (homeward home zones ends) p c) (leavesHome (homeward home zones ends)) (2 * zones) standing);
+      sym (search-from (nexts (homeTrack home zones ends) p c) (leavesHome (homeTrack home zones ends)) (2 * zones) standing);
 }
 
 module _ {home zones : ℕ} {ends p : List ℕ} {c standing : ℕ} {words₀ froms₀ words froms seen : List ℕ} {n i : ℕ}
     (l : Looking home zones ends p c standing words₀ froms₀ words froms seen n i) where
   abbrev t : Track
-  t = homeward home zones ends
+  t = homeTrack home zones ends
 
   abbrev q : Queue
   q = queueIn words froms n

@@ -32,7 +32,7 @@ module _ {points home zones : ℕ} {ends p plan : List ℕ} (ready : Ready point
         linked = linked;
       };
       once = ready .laid .once;
-      plain = ready .laid .plain;
+      free-heading = ready .laid .free-heading;
       few = ready .zones-most;
       room-words = rw length-replicate (omega (arith, ready .zones-most));
       room-froms = rw length-replicate (omega (arith, ready .zones-most));

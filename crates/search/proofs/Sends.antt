@@ -15,8 +15,8 @@ use Rattle.model.proofs.WordLaws.{heading-small, zone-word}
 use Rattle.model.proofs.PositionLaws.{once-retire, held-stands, retire-set, outs-retire-length, length-without, without-cases}
 use Rattle.rules.specs.Key.{Run, run, planWords}
 use Rattle.queue.specs.Written.{routeTo, entryOf, EntryRoom, EntryWritten}
-use Rattle.queue.proofs.Routing.{route-few}
-use Rattle.search.specs.Leaving.{homeward, Seeking, Sought}
+use Rattle.least.proofs.PathLaws.{path-length}
+use Rattle.search.specs.Leaving.{homeTrack, Seeking, Sought}
 use Rattle.search.specs.Sending.{Prepared, planOf, SentHome}
 use Rattle.search.specs.declared.Goes.{Goes}
 use Rattle.search.specs.declared.Goes.the-variants.{From, Nobody}
@@ -36,8 +36,8 @@ pub record Underway (home zones : ℕ) (ends first after order : List ℕ) (coun
   pub here : length written ≡ k
   pub stored : plan ≡ written ++ drop k plan₀
   pub room : k + left * (2 + 2 * zones) ≤ length plan₀
-  pub rest-plan : written ++ planOf (homeward home zones ends) p ≡ planOf (homeward home zones ends) p₀
-  pub rest-last : run (homeward home zones ends) p .last ≡ run (homeward home zones ends) p₀ .last
+  pub rest-plan : written ++ planOf (homeTrack home zones ends) p ≡ planOf (homeTrack home zones ends) p₀
+  pub rest-last : run (homeTrack home zones ends) p .last ≡ run (homeTrack home zones ends) p₀ .last
 
 pub underway-starts : (home : ℕ) {zones : ℕ} {ends p first after order : List ℕ} {count : ℕ} {words froms plan : List ℕ} → Prepared zones ends p first after order count words froms plan
     → Underway home zones ends first after order count words froms p plan words froms p plan count 0
@@ -60,7 +60,7 @@ underway-starts home {zones} m = record {
 module _ {home zones : ℕ} {ends first after order : List ℕ} {count : ℕ} {words₀ froms₀ p₀ plan₀ words froms p plan : List ℕ} {left k : ℕ}
     (u : Underway home zones ends first after order count words₀ froms₀ p₀ plan₀ words froms p plan left k) where
   abbrev t : Track
-  t = homeward home zones ends
+  t = homeTrack home zones ends
 
   -- nothing is left of the run
   ends-here : run t p ≡ record { plan = []; last = p } → SentHome 0 home zones ends p₀ plan₀ p plan k
@@ -98,7 +98,7 @@ module _ {home zones : ℕ} {ends first after order : List ℕ} {count : ℕ} {w
   u = x .underway
 
   abbrev track : Track
-  track = homeward home zones ends
+  track = homeTrack home zones ends
 
   abbrev carrier : ℕ
   carrier = carrierOf (at p zone)
@@ -141,7 +141,7 @@ module _ {home zones : ℕ} {ends first after order : List ℕ} {count : ℕ} {w
   retired-seeking = record {
     tables = record { each = length-without (eqb carrier) p ∙ u .seeking .tables .each; both = u .seeking .tables .both; inside = u .seeking .tables .inside; room = u .seeking .tables .room; linked = u .seeking .tables .linked };
     once = once-retire carrier p once;
-    plain = λ z e. ⊎-elim (λ q. u .seeking .plain z (sym q ∙ e)) (λ q. let f : at (retire carrier p) z ≡ 0 = q .1 in omega arith) (without-cases (eqb carrier) p z);
+    free-heading = λ z e. ⊎-elim (λ q. u .seeking .free-heading z (sym q ∙ e)) (λ q. let f : at (retire carrier p) z ≡ 0 = q .1 in omega arith) (without-cases (eqb carrier) p z);
     few = u .seeking .few;
     room-words = omega (arith, u .seeking .room-words, x .same-words);
     room-froms = omega (arith, u .seeking .room-froms, x .same-froms);
@@ -162,7 +162,7 @@ module _ {home zones : ℕ} {ends first after order : List ℕ} {count : ℕ} {w
       written = u .written ++ entry;
       here = length-append (u .written) entry ∙ ap (λ (n : ℕ). n + length entry) (u .here) ∙ sym (w .next);
       stored = stored;
-      room = omega (arith, w .next, route-few words′ froms′ place, x .sought .given .few, one-entry, u .room);
+      room = omega (arith, w .next, path-length (record { words = words′; froms = froms′ }) place, x .sought .given .few, one-entry, u .room);
       rest-plan = append-assoc (u .written) entry (planOf track (retire carrier p)) ∙ ap (λ (y : Run). u .written ++ planWords (y .plan)) (sym step) ∙ u .rest-plan;
       rest-last = ap (λ (y : Run). y .last) (sym step) ∙ u .rest-last;
     }

@@ -21,7 +21,7 @@ use Rattle.carriers.specs.Order.{carriersIn}
 use Rattle.carriers.proofs.Sorting.{zone-inside}
 use Rattle.queue.specs.Searching.{Offering}
 use Rattle.queue.proofs.QueueArrays.{queued-readable}
-use Rattle.search.specs.Leaving.{homeward, Seeking, Sought}
+use Rattle.search.specs.Leaving.{homeTrack, Seeking, Sought}
 use Rattle.search.specs.declared.Goes.the-variants.{From, Nobody}
 use Rattle.search.proofs.Looks.{Looking, looking-starts, looking-past, looking-few, looking-word, looking-goal}
 
@@ -30,17 +30,17 @@ pub record Tried (home zones : ℕ) (ends p order : List ℕ) (count : ℕ) (wor
   pub small : k ≤ count
   pub same-words : length words ≡ length words₀
   pub same-froms : length froms ≡ length froms₀
-  pub rest : firstToGo (homeward home zones ends) p (carriersIn p (keep (λ z. not (isFree p z)) (drop k (take count order)))) ≡ firstToGo (homeward home zones ends) p (outs p)
+  pub rest : firstToGo (homeTrack home zones ends) p (carriersIn p (keep (λ z. not (isFree p z)) (drop k (take count order)))) ≡ firstToGo (homeTrack home zones ends) p (outs p)
 
 module _ {zones : ℕ} {ends p first after order : List ℕ} {count : ℕ} {words₀ froms₀ : List ℕ} (s : Seeking zones ends p first after order count words₀ froms₀) (home : ℕ) where
   pub tried-none : Tried home zones ends p order count words₀ froms₀ words₀ froms₀ 0
-  tried-none = record { small = omega arith; same-words = refl; same-froms = refl; rest = ap (firstToGo (homeward home zones ends) p) (s .in-order .carriers) }
+  tried-none = record { small = omega arith; same-words = refl; same-froms = refl; rest = ap (firstToGo (homeTrack home zones ends) p) (s .in-order .carriers) }
 
   pub nobody-goes : {words froms : List ℕ} {k : ℕ} → Tried home zones ends p order count words₀ froms₀ words froms k → k ≡ count → Sought home zones ends p words froms Nobody
   unfolding firstToGo
   nobody-goes {words} {froms} {k} d e = record {
     entry =
-        ap (λ (l : List ℕ). firstToGo (homeward home zones ends) p (carriersIn p (keep (λ z. not (isFree p z)) l)))
+        ap (λ (l : List ℕ). firstToGo (homeTrack home zones ends) p (carriersIn p (keep (λ z. not (isFree p z)) l)))
         (sym (drop-of-length-le (take count order) {i = k} (rw (length-take-le count order (s .in-order .zones .room)) (omega arith)))) ∙
         d .rest;
     given = tt;
@@ -64,7 +64,7 @@ module _ {home zones : ℕ} {ends p first after order : List ℕ} {count : ℕ} 
   next-zone = getD order k 0
 
   abbrev next-track : Track
-  next-track = homeward home zones ends
+  next-track = homeTrack home zones ends
 
   pub next-inside : next-zone < length p
   next-inside = zone-inside (x .seeking .in-order .zones) k next-few
@@ -103,14 +103,14 @@ module _ {home zones : ℕ} {ends p first after order : List ℕ} {count : ℕ} 
   standing = 2 * zone + headingOf (at p zone)
 
   abbrev track : Track
-  track = homeward home zones ends
+  track = homeTrack home zones ends
 
   -- those held among the zones after it
   abbrev others : List ℕ
   others = carriersIn p (keep (λ z. not (isFree p z)) (drop (suc k) (take count order)))
 
   turn-numbered : carrier ≡ 0 → ⊥
-  turn-numbered e = omega (arith, x .held, x .next .seeking .plain zone)
+  turn-numbered e = omega (arith, x .held, x .next .seeking .free-heading zone)
 
   pub turn-standing : standing < 2 * zones
   turn-standing = omega (arith, next-inside (x .next), x .next .seeking .tables .each)

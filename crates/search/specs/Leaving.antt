@@ -15,14 +15,14 @@ use Rattle.search.specs.declared.Goes.{Goes}
 use Rattle.search.specs.declared.Goes.the-variants.{From, Nobody}
 
 -- a track but for its count of points, which no route depends on
-abbrev pub homeward : ℕ → ℕ → List ℕ → Track
-homeward home zones ends = trackOf 0 home zones ends
+abbrev pub homeTrack : ℕ → ℕ → List ℕ → Track
+homeTrack home zones ends = trackOf 0 home zones ends
 
 -- what the search over the carriers asks: no carrier in two zones, no number 1, tables, order, and room for a queue of all words
 pub record Seeking (zones : ℕ) (ends p first after order : List ℕ) (count : ℕ) (words froms : List ℕ) : Type 0 where
   pub tables : Tables zones ends p first after
   pub once : Once p
-  pub plain : (z : ℕ) → at p z ≡ 1 → ⊥
+  pub free-heading : (z : ℕ) → at p z ≡ 1 → ⊥
   pub few : zones ≤ 96
   pub room-words : 2 * zones ≤ length words
   pub room-froms : 2 * zones ≤ length froms
@@ -47,5 +47,5 @@ GivenBy zones p words froms Nobody = Unit {0}
 
 -- what it gives: the entry of the carrier that leaves next, or none
 pub record Sought (home zones : ℕ) (ends p words froms : List ℕ) (r : Goes) : Type 0 where
-  pub entry : entryGiven p words froms r ≡ firstToGo (homeward home zones ends) p (outs p)
+  pub entry : entryGiven p words froms r ≡ firstToGo (homeTrack home zones ends) p (outs p)
   pub given : GivenBy zones p words froms r

@@ -1,8 +1,9 @@
 -- Sending home all that can go, on a parsed track and position: what is asked, and what the plan and the position are then.
 use Prim.Native.Nat.{ℕ, _+_, _*_, _≤_, _<_}
-use mathlib.Core.List.{List, _++_}
+use mathlib.Core.List.{List}
 use mathlib.Core.Path.{_≡_}
-use lib.ListN.{length, drop}
+use lib.ListN.{length}
+use Rattle.model.specs.Lists.{overwritten}
 use Rattle.model.specs.Track.{Track, trackOf}
 use Rattle.model.specs.Position.{Position, at, outs}
 use Rattle.model.specs.Accepted.{Laid}
@@ -32,5 +33,5 @@ planOf t p = planWords (run t p .plan)
 -- the plan's words are stored, the rest of the plan is as it was, and all that can go are gone
 pub record SentHome (points home zones : ℕ) (ends p plan p′ plan′ : List ℕ) (r : ℕ) : Type 0 where
   pub count : r ≡ length (planOf (trackOf points home zones ends) p)
-  pub written : plan′ ≡ planOf (trackOf points home zones ends) p ++ drop (length (planOf (trackOf points home zones ends) p)) plan
+  pub written : plan′ ≡ overwritten (planOf (trackOf points home zones ends) p) plan
   pub last : p′ ≡ run (trackOf points home zones ends) p .last

@@ -1,4 +1,5 @@
 -- The page of any bytes: too long, refused, or of the board that was read; and how it is copied out.
+-- Each case by what the page's definition gives there (Callers of `page`); what is copied out by the test whether the page fits.
 use Prim.Native.Nat.{ℕ, _≤_, _<_}
 use mathlib.Core.List.{List}
 use mathlib.Core.Path.{_≡_, refl, sym, ap, _∙_, subst, subst₂}

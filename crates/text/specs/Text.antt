@@ -1,9 +1,10 @@
 -- What `key_text` promises, for every board in bytes and whatever was lent: the page that `key` prints where it fits, else nothing.
 -- b are the board's bytes; out is what was lent, out′ what it holds at exit.
 use Prim.Native.Nat.{ℕ, _≤_, _<_}
-use mathlib.Core.List.{List, _++_}
+use mathlib.Core.List.{List}
 use mathlib.Core.Path.{_≡_}
-use lib.ListN.{length, drop}
+use lib.ListN.{length}
+use Rattle.model.specs.Lists.{overwritten}
 use Rattle.model.specs.Track.{Track}
 use Rattle.model.specs.Position.{Position}
 use Rattle.page.specs.Page.{pageOf, PAGE}
@@ -17,7 +18,7 @@ pub record KeyText (b out : List ℕ) (r : ℕ) (out′ : List ℕ) : Type 0 whe
   pub short-out : length out < length (pageOf b) → out′ ≡ out
   -- else the result is its length; it stands from the start of what was lent, and the rest stays as it was
   pub result : length (pageOf b) ≤ length out → r ≡ length (pageOf b)
-  pub written : length (pageOf b) ≤ length out → out′ ≡ pageOf b ++ drop (length (pageOf b)) out
+  pub written : length (pageOf b) ≤ length out → out′ ≡ overwritten (pageOf b) out
 
 -- what the page of a board that was read is written from: a position ready for the key, and room for any page
 pub record Printable (t : Track) (p : Position) (page : List ℕ) : Type 0 where

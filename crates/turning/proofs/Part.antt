@@ -50,13 +50,13 @@ module _ {t : Track} {passes : ℕ → Bool} {v : ℕ} where
   pub zone-new : {zs ps : List ℕ} → Part t passes v zs ps → (w : ℕ) → elem (leave t w) ps ≡ false → elem (zoneOf w) zs ≡ false
   zone-new {zs} k w n = not-true-false (elem (zoneOf w) zs) (λ i. both-ways (ends-inside k (rev w) (rw zone-rev i)) n)
 
-  -- (G1)
+  -- a part has at most one point more than zones
   pub enough : {zs ps : List ℕ} → Part t passes v zs ps → length ps ≤ suc (length zs)
   enough alone = omega arith
   enough (new-point w h e s n k) = let r = enough k in omega arith
   enough (both-inside w h e s l n k) = let r = enough k in omega arith
 
-  -- (G2) within the part, from its first point to each of its points and back
+  -- within the part there is a walk from its first point to each of its points and back
   pub ways : {zs ps : List ℕ} → Part t passes v zs ps → (q : ℕ) → elem q ps ≡ true → Way t zs v q × Way t zs q v
   ways alone q i = elem-either q v [] i (λ c. rw c (([], stay), ([], stay))) (λ j. both-ways j refl)
   ways (new-point {zs} {ps} w h e s n k) q i =
@@ -67,13 +67,13 @@ module _ {t : Track} {passes : ℕ → Bool} {v : ℕ} where
       (λ j. widen-both t zs (zoneOf w) (ways k q j))
   ways (both-inside {zs} w h e s l n k) q i = widen-both t zs (zoneOf w) (ways k q i)
 
-  -- (G3)
+  -- with as many zones as points, or more, some walk comes back
   pub turn : {zs ps : List ℕ} → Part t passes v zs ps → length ps ≤ length zs → Turn t zs v
   turn alone m = absurd (omega arith)
   turn (new-point {zs} w h e s n k) m = let r = turn k (omega arith) in (r .0, widen-one t zs (zoneOf w) (r .1), r .2)
   turn (both-inside {zs} w h e s l n k) m = turn-over t zs w h n (ways k (start t w) s .0) (ways k (leave t w) l .1)
 
-  -- (G4)
+  -- with fewer no walk comes back
   pub no-turn : {zs ps ws : List ℕ} → Part t passes v zs ps → length zs < length ps → Walk t (among zs) v ws v → ws ≡ []
   no-turn alone m r = empty-over-none r
   no-turn (new-point {zs} {ps} w h e s n k) m r =

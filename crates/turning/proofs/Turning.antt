@@ -1,4 +1,4 @@
--- The theorems of turning, for the points linked to a point v over zones that pass, counted on the track (G2 is in WalkLaws).
+-- The theorems of turning, for the points linked to a point v over zones that pass, counted on the track (that linked points have a walk is in WalkLaws).
 -- The whole part grown from v has just these points and zones, so its lengths are the counts.
 use Prim.Native.Nat.{ℕ, _+_, _*_, _≤_, _<_}
 use mathlib.Core.List.{List, []}
@@ -55,16 +55,16 @@ module _ (t : Track) (inside : (w : ℕ) → w < 2 * t .zones → start t w < t 
   zones-of-part : zonesWithin t passes within ≡ length (grown .zones)
   zones-of-part = count-below-ext (λ z. passes z && within (start t (2 * z))) (among (grown .zones)) (t .zones) same-zones ∙ zones-counted (grown .part)
 
-  -- (G1) a part has at least points - 1 zones
+  -- a part has at least points - 1 zones
   pub zones-enough : pointsWithin t within ≤ zonesWithin t passes within + 1
   zones-enough = omega (arith, enough (grown .part), points-of-part, zones-of-part)
 
-  -- (G3) with at least as many zones as points some walk comes back
+  -- with at least as many zones as points some walk comes back
   pub turns-with-loop : pointsWithin t within ≤ zonesWithin t passes within → (ws : List ℕ) × Walk t passes v ws v × (ws ≡ [] → ⊥)
   turns-with-loop m =
       let r = turn (grown .part) (omega (arith, points-of-part, zones-of-part)) in
       (r .0, widen t (among (grown .zones)) passes (zones-pass (grown .part)) (r .1), r .2)
 
-  -- (G4) with fewer no walk comes back
+  -- with fewer no walk comes back
   pub no-turn-without : zonesWithin t passes within < pointsWithin t within → (ws : List ℕ) → Walk t passes v ws v → ws ≡ []
   no-turn-without m ws k = no-turn (grown .part) (omega (arith, points-of-part, zones-of-part)) (walks-inside grown (first-inside (grown .part)) k)

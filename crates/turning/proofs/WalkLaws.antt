@@ -1,4 +1,4 @@
--- Laws of walks: more zones may pass, two walks are joined by a word of a zone that neither passes, and linked points have a walk (G2).
+-- Laws of walks: more zones may pass, two walks are joined by a word of a zone that neither passes, and linked points have a walk.
 -- Each is an induction over the first walk or the link.
 use Prim.Native.Nat.{ℕ, _*_, _<_}
 use mathlib.Core.List.{List, [], _∷_, _++_}
@@ -11,15 +11,16 @@ use Rattle.model.specs.Track.{Track, Linked, here, over, zoneOf, rev, start, le
 use Rattle.turning.specs.Walks.{Apart, Walk, stay, go}
 use Rattle.model.proofs.WordLaws.{same-zone, leave-rev}
 
+-- a word of a zone that does not pass stands apart from every walk
+pub apart-outside : {t : Track} {passes : ℕ → Bool} {p q : ℕ} {vs : List ℕ} (w : ℕ) → passes (zoneOf w) ≡ false → Walk t passes p vs q → Apart w vs
+apart-outside w n stay = tt
+apart-outside w n (go u h e s a k) = λ c. true≢false (cc)
+
 module _ (t : Track) (f g : ℕ → Bool) (wider : (z : ℕ) → f z ≡ true → g z ≡ true) where
   -- where more zones pass a walk stays one
   pub widen : {p q : ℕ} {ws : List ℕ} → Walk t f p ws q → Walk t g p ws q
   widen stay = stay
   widen (go w h e s a k) = go w h (wider (zoneOf w) e) s a (widen k)
-
-  apart-before : {p q : ℕ} {vs : List ℕ} (w : ℕ) → f (zoneOf w) ≡ false → Walk t f p vs q → Apart w vs
-  apart-before w n stay = tt
-  apart-before w n (go u h e s a k) = λ c. true≢false (cc)
 
   apart-within : {p q : ℕ} {ws : List ℕ} (u w : ℕ) (vs : List ℕ) → f (zoneOf u) ≡ true → f (zoneOf w) ≡ false → Apart u ws → Walk t f p ws q → Apart u (ws ++ (w ∷ vs))
   apart-within u w vs e n a stay = λ c. true≢false (cc)
@@ -27,7 +28,7 @@ module _ (t : Track) (f g : ℕ → Bool) (wider : (z : ℕ) → f z ≡ true �
 
   -- a walk, a word of a zone that the walks don't pass, a walk
   pub across : {p q r : ℕ} {ws vs : List ℕ} (w : ℕ) → w < 2 * t .zones → g (zoneOf w) ≡ true → f (zoneOf w) ≡ false → start t w ≡ q → Walk t f p ws q → Walk t f (leave t w) vs r → Walk t g p (ws ++ (w ∷ vs)) r
-  across w h e n s stay back = go w h e s (apart-before w n back) (widen back)
+  across w h e n s stay back = go w h e s (apart-outside w n back) (widen back)
   across {vs} w h e n s (go u i d r a k) back = go u i (wider (zoneOf u) d) r (apart-within u w vs d n a k) (across w h e n s k back)
 
 module _ (t : Track) (passes : ℕ → Bool) where
@@ -48,7 +49,7 @@ module _ (t : Track) (passes : ℕ → Bool) where
       pick false n = (w ∷ u ∷ vs, go w h e s (eqb-false (zoneOf u) (zoneOf w) n) (go u i d r a k))
       pick true n = again (same-zone u w (eqb-true (zoneOf u) (zoneOf w) n))
 
-  -- (G2)
+  -- linked points have a walk
   pub walk-of-linked : {p q : ℕ} → Linked t (λ z. passes z ≡ true) p q → (ws : List ℕ) × Walk t passes p ws q
   walk-of-linked here = ([], stay)
   walk-of-linked (over w h e s k) = before w h e s (walk-of-linked k .1)

@@ -1,8 +1,12 @@
 -- `collapse` keeps its promise: a refused board is turned back, and on any other the inner collapse answers on what was read.
+-- From the contracts of `read_into` and `padded::collapse`: what was read is ready, and each return is a law of CollapsePromised.
+use mathlib.Core.Path.{sym}
+use native.Mathlib.Omega.{arith}
+use lib.Seq.{length-take-le}
 use borrow.Author.Needs.{needs}
 use denote.Ref.{now}
 use Rattle.board.proofs.GivenLaws.{said}
-use Rattle.exam.proofs.ReadBoard.{Bytes, ready-read}
+use Rattle.exam.proofs.ReadBoard.{Bytes, few-zones, words-in, zones-in, ready-read}
 use Rattle.exam.proofs.CollapsePromised.{collapse-turned-back, collapse-promised}
 use Rattle.exam.proofs.collapse.Statement.{statement}
 use Rattle.exam.proofs.collapse.Tie as tie
@@ -23,11 +27,20 @@ read-into-requires c κs = search needs
 returns : tie.Need-returns
 returns c = collapse-turned-back _ _ (c .before .before .before .read-into .ensures) (c .if1 .taken)
 
+mul-words : tie.Need-mul-words
+mul-words c = omega (arith, few-zones (said (c .before .before .before .read-into .ensures) (c .if1 .left)))
+
+array-share-prefix-ends : tie.Need-array-share-prefix-ends
+array-share-prefix-ends c = words-in (said (c .before .before .before .read-into .ensures) (c .if1 .left))
+
 slice-aggregate-collapse : tie.Need-slice-aggregate-collapse
-slice-aggregate-collapse c = search needs
+slice-aggregate-collapse c = sym (length-take-le _ _ (array-share-prefix-ends (c .before)))
+
+array-borrow-prefix-position : tie.Need-array-borrow-prefix-position
+array-borrow-prefix-position c = zones-in (said (c .before .before .before .before .read-into .ensures) (c .before .if1 .left))
 
 slice-aggregate-collapse-2 : tie.Need-slice-aggregate-collapse-2
-slice-aggregate-collapse-2 c = search needs
+slice-aggregate-collapse-2 c = sym (length-take-le _ _ (array-borrow-prefix-position (c .before)))
 
 collapse-requires : tie.Need-collapse-requires
 collapse-requires c κs =
@@ -51,7 +64,10 @@ collapse-spec =
     slice-aggregate-read-into-2
     read-into-requires
     returns
+    mul-words
+    array-share-prefix-ends
     slice-aggregate-collapse
+    array-borrow-prefix-position
     slice-aggregate-collapse-2
     collapse-requires
     same-length

@@ -1,8 +1,12 @@
 -- `key` keeps its promise: a refused board is turned back, and on any other the inner key answers on what was read.
+-- From the contracts of `read_into` and `padded::key`: what was read is ready, and each return is a law of KeyPromised.
+use mathlib.Core.Path.{sym}
+use native.Mathlib.Omega.{arith}
+use lib.Seq.{length-take-le}
 use borrow.Author.Needs.{needs}
 use denote.Ref.{now}
 use Rattle.board.proofs.GivenLaws.{said}
-use Rattle.exam.proofs.ReadBoard.{Bytes, ready-read}
+use Rattle.exam.proofs.ReadBoard.{Bytes, few-zones, words-in, zones-in, ready-read}
 use Rattle.exam.proofs.KeyPromised.{key-turned-back, key-promised}
 use Rattle.exam.proofs.key.Statement.{statement}
 use Rattle.exam.proofs.key.Tie as tie
@@ -23,11 +27,20 @@ read-into-requires c κs = search needs
 returns : tie.Need-returns
 returns c = key-turned-back _ _ _ (c .before .before .before .read-into .ensures) (c .if1 .taken)
 
+mul-words : tie.Need-mul-words
+mul-words c = omega (arith, few-zones (said (c .before .before .before .read-into .ensures) (c .if1 .left)))
+
+array-share-prefix-ends : tie.Need-array-share-prefix-ends
+array-share-prefix-ends c = words-in (said (c .before .before .before .read-into .ensures) (c .if1 .left))
+
 slice-aggregate-key : tie.Need-slice-aggregate-key
-slice-aggregate-key c = search needs
+slice-aggregate-key c = sym (length-take-le _ _ (array-share-prefix-ends (c .before)))
+
+array-borrow-prefix-position : tie.Need-array-borrow-prefix-position
+array-borrow-prefix-position c = zones-in (said (c .before .before .before .before .read-into .ensures) (c .before .if1 .left))
 
 slice-aggregate-key-2 : tie.Need-slice-aggregate-key-2
-slice-aggregate-key-2 c = search needs
+slice-aggregate-key-2 c = sym (length-take-le _ _ (array-borrow-prefix-position (c .before)))
 
 key-requires : tie.Need-key-requires
 key-requires c κs =
@@ -54,7 +67,10 @@ key-spec =
     slice-aggregate-read-into-2
     read-into-requires
     returns
+    mul-words
+    array-share-prefix-ends
     slice-aggregate-key
+    array-borrow-prefix-position
     slice-aggregate-key-2
     key-requires
     same-length

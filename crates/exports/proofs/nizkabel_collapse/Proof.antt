@@ -1,4 +1,5 @@
--- `nizkabel_collapse` keeps the collapse's promise: the count is small enough for 32 bits, and stands in `out`.
+-- `nizkabel_collapse` keeps the collapse's promise, with the count in `out`.
+-- The promise is that of `exam::collapse`; the count fits 32 bits, for at most 96 carriers are left (`few-left` of Lengths).
 use borrow.Author.Needs.{needs}
 use native.Mathlib.Omega.{arith}
 use denote.Ref.{now}

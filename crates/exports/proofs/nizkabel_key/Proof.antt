@@ -1,4 +1,5 @@
--- `nizkabel_key` keeps the key's promise: the two lengths are small enough for 32 bits, and stand in `out`.
+-- `nizkabel_key` keeps the key's promise, with the two lengths in `out`.
+-- The promise is that of `exam::key`; the lengths fit 32 bits, being at most 18,624 words and 96 numbers (laws of Lengths).
 use borrow.Author.Needs.{needs}
 use native.Mathlib.Omega.{arith}
 use denote.Ref.{now}

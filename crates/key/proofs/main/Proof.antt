@@ -1,4 +1,5 @@
--- `main` is safe and ends: what `key_text` gives counts bytes of the page that it was lent.
+-- `main` is safe and ends.
+-- What `read_full` and `key_text` give counts bytes of what they were lent, so both cuts are inside (`text-within` for the page).
 use mathlib.Core.Path.{sym}
 use borrow.Author.Needs.{needs}
 use native.Mathlib.Omega.{arith}

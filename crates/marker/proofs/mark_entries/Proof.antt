@@ -1,5 +1,5 @@
--- `marker::mark_entries` meets its contract. The loop's invariant: the number of the entries from `place` on, in the position as it is now, is
--- the whole plan's. Assumes nothing.
+-- `marker::mark_entries` meets its contract: it gives the number of the plan, and the position keeps its length.
+-- The invariant: the entries from `place` on, in the position as it is now, have the whole plan's number. The measure is how many words are left.
 use Prim.Native.Nat.{_+_, _-_, _≤_}
 use mathlib.Core.Path.{_≡_, _∙_}
 use native.Mathlib.Omega.{arith}

@@ -1,5 +1,5 @@
 -- `marker::mark_entry` meets its contract: each return is a case of the entry's number.
--- Assumes nothing.
+-- Each is a law of EntryLaws, by the tests that led to it and the contracts of `stands`, `still_out` and `mark_route`.
 use Prim.Native.Nat.{_+_, _*_, _<_}
 use mathlib.Core.Path.{refl}
 use native.Mathlib.Omega.{arith}

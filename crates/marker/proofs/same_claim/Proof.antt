@@ -1,5 +1,5 @@
--- `marker::same_claim` meets its contract. The loop's invariant: what is left of the claim and of the list compare as the whole does.
--- Assumes nothing.
+-- `marker::same_claim` meets its contract: whether the sheet's words from `from` on are the list's first `count` numbers.
+-- The invariant: what is left of the claim and of the list compare as the whole does. The measure is how many numbers are left.
 use Prim.Native.Nat.{_-_}
 use mathlib.Core.Path.{sym}
 use native.Mathlib.Omega.{arith}

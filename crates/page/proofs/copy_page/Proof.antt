@@ -1,5 +1,5 @@
 -- `page::copy_page` meets its contract: nothing is written where the bytes do not fit, and else the text that they are is put.
--- Assumes nothing.
+-- The two cases by the test of the room, each a law of PagePut; the second from the contract of `put_text`.
 use native.Mathlib.Omega.{arith}
 use mathlib.Core.Path.{sym}
 use lib.Seq.{length-take-le}

@@ -1,5 +1,5 @@
 -- `page::write_key` meets its contract: five texts are put one after another.
--- Assumes nothing.
+-- After each, one text fewer is left to write, with room for the next (PutLaws); all together, from place 0 on, begin the page.
 use Prim.Native.Nat.{ℕ}
 use mathlib.Core.Path.{refl, sym}
 use mathlib.Core.List.{List}

@@ -1,5 +1,5 @@
 -- `page::write_refused` meets its contract: the text with the number is put, and then the newline.
--- Assumes nothing.
+-- From the contracts of `put_labelled` and `put_text`, put in a row by PutLaws; from place 0 on, they begin the page.
 use mathlib.Core.Path.{refl, _∙_}
 use Rattle.page.proofs.PutLaws.{room-left, goes-on, ends, begins}
 use Rattle.page.proofs.PagePut.{refused-starts}

@@ -1,5 +1,5 @@
 -- `page::write_too_long` meets its contract: one text is put.
--- Assumes nothing.
+-- From the contract of `put_text`: what is put from place 0 on begins the page.
 use mathlib.Core.Path.{refl}
 use native.Mathlib.Omega.{arith}
 use Rattle.page.proofs.PutLaws.{begins}

@@ -1,5 +1,5 @@
--- `parts::add_ways` meets its contract. The loop's invariant: the ways are those over the words below w.
--- The measure is how many words are left. Assumes nothing.
+-- `parts::add_ways` meets its contract: the ways are those over all words that a set goes on over.
+-- The invariant: the ways are those over such words below w (laws of WordWays). The measure is how many words are left.
 use Prim.Native.Nat.{_-_, _*_, _≤_, _<_}
 use mathlib.Core.Path.{_≡_, sym, _∙_}
 use mathlib.Core.Logic.{⊎-elim}
@@ -19,7 +19,7 @@ abbrev μ-loop : tie.MeasureT-loop
 μ-loop ends position merging looped ways₀ w₀ ways w = length ends - w
 
 loop-holds : tie.Need-loop-holds Inv-loop μ-loop
-loop-holds c = (omega arith, rw (c .before .before .before .pre .1) (over-none _ _))
+loop-holds c = (omega arith, rw (c .before .before .before .pre .1) (over-none (c .before .before .before .args .ends .now) _))
 
 goes-on-requires : tie.Need-goes-on-requires Inv-loop μ-loop
 goes-on-requires c κs = (c .before .before .before .before .before .pre .0, c .loop-test .taken)
@@ -54,8 +54,8 @@ loop-again c =
     let w = looping .loop .w in (
       omega arith,
       ⊎-elim
-          (λ k. over-added _ _ w _ (looping .loop .inv .1) (sym (c .before .goes-on .ensures) ∙ k .0 .taken) (a .pre .0 .inside w (omega (arith, a .pre .0 .ends-count, c .before .before .loop-test .taken))) (k .1 .ensures) (k .7 ∙ k .4 .ensures))
-          (λ k. rw (k .1) (over-skip _ _ w _ (looping .loop .inv .1) (sym (c .before .goes-on .ensures) ∙ k .0 .left)))
+          (λ k. over-added (a .args .ends .now) _ w _ (looping .loop .inv .1) (sym (c .before .goes-on .ensures) ∙ k .0 .taken) (a .pre .0 .inside w (omega (arith, a .pre .0 .ends-count, c .before .before .loop-test .taken))) (k .1 .ensures) (k .7 ∙ k .4 .ensures))
+          (λ k. rw (k .1) (over-skip (a .args .ends .now) _ w _ (looping .loop .inv .1) (sym (c .before .goes-on .ensures) ∙ k .0 .left)))
           (c .if1 .came),
     )
 

@@ -1,5 +1,5 @@
 -- `parts::collapse_position` meets its contract: the carriers that leave at a point of home's set are taken off.
--- Assumes nothing.
+-- From the contracts of `home_set` and `take_off`; that those left are the collapse's is `outs-left` of LeftCarriers.
 use mathlib.Core.Path.{ap, _∙_}
 use borrow.Author.Needs.{needs}
 use Rattle.model.specs.Position.{outs}

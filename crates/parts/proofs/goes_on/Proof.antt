@@ -1,5 +1,5 @@
 -- `parts::goes_on` meets its contract: each answer is what the tests that led to it say of the word.
--- Assumes nothing.
+-- Each is a law of OneWord: the definition with its tests replaced by what the code found.
 use mathlib.Core.Path.{sym, ap, _∙_}
 use native.Mathlib.Omega.{arith}
 use borrow.Author.Needs.{needs}

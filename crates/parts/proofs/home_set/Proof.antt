@@ -1,5 +1,5 @@
 -- `parts::home_set` meets its contract: what is grown from home over the ways of joining and merging is home's set.
--- Assumes nothing.
+-- The contracts of what it calls say what the ways are and that `grow` gives what is reached; that is home's set by `grown-home`.
 use mathlib.Core.Path.{refl}
 use native.Mathlib.Omega.{arith}
 use borrow.Author.Needs.{needs}

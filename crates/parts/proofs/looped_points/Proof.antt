@@ -1,5 +1,5 @@
 -- `parts::looped_points` meets its contract: the ways over free zones are made, and `loops` goes over them.
--- Assumes nothing.
+-- Its contract is that of `loops`, and what `loops` asks of the ways is the contract of `add_ways`, with two words a zone.
 use mathlib.Core.Path.{refl}
 use borrow.Author.Needs.{needs}
 use Rattle.parts.proofs.WordWays.{over-all, sized-each}

@@ -1,5 +1,5 @@
 -- `parts::loops` meets its contract. The loop's invariant: the points of parts with a loop that are not left are marked.
--- The measure is how many points are left. Assumes nothing.
+-- Each turn takes the whole part of the lowest point left (laws of PartByPart). The measure is how many points are left.
 use mathlib.Core.Logic.{⊎-elim}
 use native.Mathlib.Omega.{arith}
 use borrow.Author.Needs.{needs}

@@ -1,5 +1,5 @@
--- `parts::take_off` meets its contract. The loop's invariant: the zones below z are as the collapse leaves them, the others as they were.
--- The measure is how many zones are left. Assumes nothing.
+-- `parts::take_off` meets its contract: every carrier that leaves at a point of the set is taken off.
+-- The invariant: the zones below z are done, the others as they were (laws of TakenOff). The measure is how many zones are left.
 use Prim.Native.Nat.{_-_, _≤_}
 use mathlib.Core.Path.{sym, _∙_}
 use mathlib.Core.Logic.{⊎-elim}

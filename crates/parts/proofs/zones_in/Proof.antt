@@ -1,5 +1,5 @@
--- `parts::zones_in` meets its contract. The loop's invariant: n is the count of the zones below z.
--- The measure is how many zones are left. Assumes nothing.
+-- `parts::zones_in` meets its contract: it counts the free zones that start in the part.
+-- The invariant: n is the count of those below z; one zone more counts or not by its tests. The measure is how many zones are left.
 use Prim.Native.Nat.{ℕ, _+_, _-_, _*_, _≤_}
 use mathlib.Core.Path.{_≡_, refl, sym, ap, _∙_}
 use mathlib.Core.List.{List}

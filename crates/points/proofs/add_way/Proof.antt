@@ -1,5 +1,5 @@
 -- `points::add_way` meets its contract: the word of p is stored with the bit of q.
--- Assumes nothing.
+-- The contract of `with` tells the word that is stored.
 use mathlib.Core.Path.{ap}
 use borrow.Author.Needs.{needs}
 use lib.ListN.{set}

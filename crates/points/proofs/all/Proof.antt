@@ -1,5 +1,5 @@
 -- `points::all` meets its contract: 64 ones less the highest are the ones of so many points.
--- Assumes nothing.
+-- By `high-cut`: 64 ones are n ones before 64 - n ones, and the shift takes the latter away.
 use Prim.Native.Nat.{ℕ, _+_, _-_, _*_, _/_, _^_, _≤_}
 use mathlib.Core.Path.{_≡_, sym, ap, _∙_}
 use native.Mathlib.Omega.{arith}

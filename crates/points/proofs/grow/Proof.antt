@@ -1,5 +1,5 @@
--- `points::grow` meets its contract. The loop's invariant: what is found is reached, and what a way leads to from a point that is not fresh is found.
--- The measure is how many points are not yet grown from. Assumes nothing.
+-- `points::grow` meets its contract: it gives the points that are reached from one over the ways.
+-- The invariant: what is found is reached, and where a way leads from a found point not fresh is found. The measure: points not grown from.
 use Prim.Native.Nat.{_+_, _-_}
 use native.Mathlib.Omega.{arith}
 use borrow.Author.Needs.{needs}

@@ -1,5 +1,5 @@
 -- `points::has` meets its contract: a shift and the lowest digit are what a bit is.
--- Assumes nothing.
+-- The definition, unfolded, is what the code computes.
 use mathlib.Core.Path.{refl}
 use borrow.Author.Needs.{needs}
 use Rattle.points.specs.Sets.{hasBit}

@@ -1,5 +1,5 @@
 -- `points::lowest` meets its contract: the zeros below the lowest set bit are as many as its place.
--- Assumes nothing.
+-- By `trailing-lowest` of LowestLaws; the cast fits, for there are at most 64 such zeros.
 use native.Mathlib.Omega.{arith}
 use lib.Count.{trailing-le}
 use Rattle.points.proofs.LowestLaws.{trailing-lowest}

@@ -1,5 +1,5 @@
 -- `points::size` meets its contract: the count of set bits is the number of points.
--- Assumes nothing.
+-- By `size-count` of SizeLaws; the cast fits, for at most 64 bits are set.
 use native.Mathlib.Omega.{arith}
 use lib.Count.{ones-le}
 use Rattle.points.proofs.SizeLaws.{size-count}

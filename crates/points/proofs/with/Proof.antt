@@ -1,5 +1,5 @@
--- `points::with` meets its contract: the shifted 1 is a power of two that fits.
--- Assumes nothing.
+-- `points::with` meets its contract: the point's bit is put into the set.
+-- The shifted 1 is a power of two that fits, for p is below 64 (`shifted-one` of BitLaws).
 use mathlib.Core.Path.{ap}
 use borrow.Author.Needs.{needs}
 use lib.Bits.{bitOr}

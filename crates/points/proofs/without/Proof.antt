@@ -1,5 +1,5 @@
 -- `points::without` meets its contract, which is its code.
--- Assumes nothing.
+-- The definition, unfolded, is what the code computes.
 use mathlib.Core.Path.{refl}
 use Rattle.points.specs.Sets.{less}
 use Rattle.points.proofs.without.Statement.{statement}

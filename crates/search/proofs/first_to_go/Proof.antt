@@ -1,4 +1,5 @@
--- `first_to_go` meets its contract: the carriers left to try decide who goes, and what is left of a carrier's search decides whether it does.
+-- `first_to_go` meets its contract: it finds the first carrier that can go home and its route in the queue, or that none can.
+-- Two loops: the carriers left to try decide who goes, what is left of a search decides how it ends. Measures: carriers and words left.
 use Prim.Native.Nat.{_*_, _-_}
 use mathlib.Core.Path.{sym, _∙_}
 use native.Mathlib.Omega.{arith}

@@ -1,4 +1,5 @@
--- `send_all` meets its contract: what is written and the run from here make the whole run.
+-- `send_all` meets its contract: it stores the plan of the key's run, and leaves the run's last position.
+-- The invariant: what is stored and the run from here make the whole run (laws of Sends). The measure is how many carriers are out.
 use mathlib.Core.Path.{_∙_}
 use native.Mathlib.Omega.{arith}
 use denote.Ref.{now}

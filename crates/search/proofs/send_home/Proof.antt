@@ -1,4 +1,5 @@
 -- `send_home` meets its contract: the tables and the order are made, and the rounds are `send_all`'s.
+-- From the contracts of what it calls, with what they ask from Prepares; the run does not depend on the count of points (Runs).
 use borrow.Author.Needs.{needs}
 use Rattle.search.proofs.Runs.{sent-points}
 use Rattle.search.proofs.Prepares.{ready-unlinked, ready-prepared}

@@ -1,4 +1,5 @@
 -- `key_page` meets its contract: the key is drawn into room for every plan and list, and its page is written.
+-- From the contracts of `count_out`, `parsed::key` and `write_key`, by the two laws of KeyPages: what was drawn can be written, and is the page.
 use Prim.Native.Nat.{ℕ}
 use borrow.Author.Needs.{needs}
 use lib.ListN.{length-replicate}

@@ -1,4 +1,5 @@
 -- `key_text` keeps its promise: the page of the bytes is written into room for any page, and copied out where it fits.
+-- From the contracts of `read_page` and `copy_page`, by two laws of Pages: the page is inside its room, and its copy keeps the promise.
 use Prim.Native.Nat.{ℕ}
 use borrow.Author.Needs.{needs}
 use native.Mathlib.Omega.{arith}

@@ -1,4 +1,5 @@
 -- `read_page` meets its contract: the page is the one for too many bytes, for a refused board, or for the board that was read.
+-- Each return is a law of Pages, by the test that led to it; a board that was read has at most 96 zones, so the cuts are inside.
 use borrow.Author.Needs.{needs}
 use native.Mathlib.Omega.{arith}
 use denote.Ref.{now}

@@ -1,5 +1,5 @@
 -- `words::leaving` meets its contract: the end read is the reverse's.
--- Assumes nothing.
+-- The contract of `reverse` tells the word whose end is read.
 use Prim.Native.Nat.{ℕ}
 use mathlib.Core.Path.{ap}
 use borrow.Author.Needs.{needs}

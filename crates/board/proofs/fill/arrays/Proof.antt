@@ -1,24 +1,29 @@
 -- `arrays` fills the track's list of ends and the position, each made long enough by zeros.
 -- The invariant: the first 2 × z ends and the first z places of the position are filled.
-use Prim.Native.Nat.{ℕ, _-_, _*_, _≤_, _<_}
-use mathlib.Core.List.{List}
+use Prim.Native.Nat.{_-_, _*_, _≤_, _<_}
 use mathlib.Core.Path.{_≡_, sym, _∙_, ap}
 use native.Mathlib.Omega.{arith}
 use lib.ListN.{length, length-set}
-use Rattle.board.specs.Tables.{ByteAt, endSaid}
-use Rattle.model.specs.Reading.{zonesSaid}
-use Rattle.board.proofs.Filling.{filled, heldSaid, ends-size, position-size, ends-next, ends-last, position-next, position-last}
+use Rattle.board.specs.Inner.{endSaid}
+use Rattle.board.proofs.Filling.{few-zones, filled, heldSaid, ends-size, position-size, ends-next, ends-last, position-next, position-last}
 use Rattle.board.proofs.fill.arrays.Statement.{statement}
 use Rattle.board.proofs.fill.arrays.Tie as tie
-
-few-zones : {b : List ℕ} {n z : ℕ} → zonesSaid b ≤ 96 → ByteAt b 5 n → z < n → z < 96
-few-zones {b} {n} {z} l N k = let s : n ≡ zonesSaid b = N .is in omega arith
 
 abbrev Inv-loop : tie.InvT-loop
 Inv-loop bytes ends₀ position₀ zones z₀ ends position z = (z ≤ zones) × (ends ≡ filled 192 (endSaid bytes) (2 * z)) × (position ≡ filled 96 (heldSaid bytes) z)
 
 abbrev μ-loop : tie.MeasureT-loop
 μ-loop bytes ends₀ position₀ zones z₀ ends position z = zones - z
+
+-- the zone is one of 96 at most, and both arrays have kept their length
+few : (c : tie.In-loop Inv-loop μ-loop) → c .before .loop .z < 96
+few c = few-zones (c .before .before .before .before .before .before .pre .0 .1) (c .before .before .byte .ensures) (c .loop-test .taken)
+
+ends-long : (c : tie.At-loop Inv-loop μ-loop) → length (c .loop .ends) ≡ 192
+ends-long c = ends-size (c .before .before .before .before .before .pre .0 .1) (c .before .byte .ensures) (c .loop .inv .0) (c .loop .inv .1)
+
+position-long : (c : tie.At-loop Inv-loop μ-loop) → length (c .loop .position) ≡ 96
+position-long c = position-size (c .before .before .before .before .before .pre .0 .1) (c .before .byte .ensures) (c .loop .inv .0) (c .loop .inv .2)
 
 byte-requires : tie.Need-byte-requires Inv-loop μ-loop
 byte-requires c κs = omega (arith, c .before .before .before .pre .0 .0)
@@ -33,7 +38,7 @@ add-byte : tie.Need-add-byte Inv-loop μ-loop
 add-byte c = omega arith
 
 byte-requires-2 : tie.Need-byte-requires-2 Inv-loop μ-loop
-byte-requires-2 c κs = omega (arith, c .before .before .before .before .before .before .pre .0 .0, c .before .before .byte .ensures .is, c .loop-test .taken)
+byte-requires-2 c κs = omega (arith, c .before .before .before .before .before .before .pre .0 .0, c .before .before .byte .ensures .is)
 
 mul-byte-2 : tie.Need-mul-byte-2 Inv-loop μ-loop
 mul-byte-2 c = omega arith
@@ -42,7 +47,7 @@ add-byte-2 : tie.Need-add-byte-2 Inv-loop μ-loop
 add-byte-2 c = omega arith
 
 byte-requires-3 : tie.Need-byte-requires-3 Inv-loop μ-loop
-byte-requires-3 c κs = omega (arith, c .before .before .before .before .before .before .before .pre .0 .0, c .before .before .before .byte .ensures .is, c .before .loop-test .taken)
+byte-requires-3 c κs = omega (arith, c .before .before .before .before .before .before .before .pre .0 .0, c .before .before .before .byte .ensures .is)
 
 mul-byte-3 : tie.Need-mul-byte-3 Inv-loop μ-loop
 mul-byte-3 c = omega arith
@@ -51,7 +56,7 @@ add-byte-3 : tie.Need-add-byte-3 Inv-loop μ-loop
 add-byte-3 c = omega arith
 
 byte-requires-4 : tie.Need-byte-requires-4 Inv-loop μ-loop
-byte-requires-4 c κs = omega (arith, c .before .before .before .before .before .before .before .before .pre .0 .0, c .before .before .before .before .byte .ensures .is, c .before .before .loop-test .taken)
+byte-requires-4 c κs = omega (arith, c .before .before .before .before .before .before .before .before .pre .0 .0, c .before .before .before .before .byte .ensures .is)
 
 mul-byte-4 : tie.Need-mul-byte-4 Inv-loop μ-loop
 mul-byte-4 c = omega arith
@@ -60,7 +65,7 @@ add-byte-4 : tie.Need-add-byte-4 Inv-loop μ-loop
 add-byte-4 c = omega arith
 
 byte-requires-5 : tie.Need-byte-requires-5 Inv-loop μ-loop
-byte-requires-5 c κs = omega (arith, c .before .before .before .before .before .before .before .before .before .pre .0 .0, c .before .before .before .before .before .byte .ensures .is, c .before .before .before .loop-test .taken)
+byte-requires-5 c κs = omega (arith, c .before .before .before .before .before .before .before .before .before .pre .0 .0, c .before .before .before .before .before .byte .ensures .is)
 
 mul-ends : tie.Need-mul-ends Inv-loop μ-loop
 mul-ends c = omega arith
@@ -69,7 +74,7 @@ mul-ends-2 : tie.Need-mul-ends-2 Inv-loop μ-loop
 mul-ends-2 c = omega arith
 
 slice-write-ends : tie.Need-slice-write-ends Inv-loop μ-loop
-slice-write-ends c = omega (arith, few-zones (c .before .before .before .before .before .before .before .before .before .before .pre .0 .1) (c .before .before .before .before .before .before .byte .ensures) (c .before .before .before .before .loop-test .taken), ends-size (c .before .before .before .before .before .before .before .before .before .before .pre .0 .1) (c .before .before .before .before .before .before .byte .ensures) (c .before .before .before .before .before .loop .inv .0) (c .before .before .before .before .before .loop .inv .1))
+slice-write-ends c = omega (arith, few (c .before .before .before .before), ends-long (c .before .before .before .before .before))
 
 mul-ends-3 : tie.Need-mul-ends-3 Inv-loop μ-loop
 mul-ends-3 c = omega arith
@@ -81,7 +86,7 @@ mul-ends-4 : tie.Need-mul-ends-4 Inv-loop μ-loop
 mul-ends-4 c = omega arith
 
 slice-write-ends-2 : tie.Need-slice-write-ends-2 Inv-loop μ-loop
-slice-write-ends-2 c = rw (length-set (c .before .before .before .before .before .loop .ends) (2 * c .before .before .before .before .before .loop .z)) (omega (arith, few-zones (c .before .before .before .before .before .before .before .before .before .before .pre .0 .1) (c .before .before .before .before .before .before .byte .ensures) (c .before .before .before .before .loop-test .taken), ends-size (c .before .before .before .before .before .before .before .before .before .before .pre .0 .1) (c .before .before .before .before .before .before .byte .ensures) (c .before .before .before .before .before .loop .inv .0) (c .before .before .before .before .before .loop .inv .1)))
+slice-write-ends-2 c = let looping = c .before .before .before .before .before in rw (length-set (looping .loop .ends) (2 * looping .loop .z)) (omega (arith, few (c .before .before .before .before), ends-long looping))
 
 mul-position : tie.Need-mul-position Inv-loop μ-loop
 mul-position c = omega arith
@@ -96,7 +101,7 @@ mul-position-2 : tie.Need-mul-position-2 Inv-loop μ-loop
 mul-position-2 c = omega arith
 
 slice-write-position : tie.Need-slice-write-position Inv-loop μ-loop
-slice-write-position c = omega (arith, few-zones (c .before .before .before .before .before .before .before .before .before .before .pre .0 .1) (c .before .before .before .before .before .before .byte .ensures) (c .before .before .before .before .loop-test .taken), position-size (c .before .before .before .before .before .before .before .before .before .before .pre .0 .1) (c .before .before .before .before .before .before .byte .ensures) (c .before .before .before .before .before .loop .inv .0) (c .before .before .before .before .before .loop .inv .2))
+slice-write-position c = omega (arith, few (c .before .before .before .before), position-long (c .before .before .before .before .before))
 
 add-z : tie.Need-add-z Inv-loop μ-loop
 add-z c = omega arith
@@ -105,16 +110,25 @@ loop-less : tie.Need-loop-less Inv-loop μ-loop
 loop-less c = omega arith
 
 loop-again : tie.Need-loop-again Inv-loop μ-loop
-loop-again c = let n = few-zones (c .before .before .before .before .before .before .before .before .before .before .pre .0 .1) (c .before .before .before .before .before .before .byte .ensures) (c .before .before .before .before .loop-test .taken) in (omega arith, ends-next (c .before .before .before .before .before .loop .inv .1) (c .before .before .before .byte2 .ensures) (c .before .before .byte3 .ensures) n, position-next (c .before .before .before .before .before .loop .inv .2) (c .before .byte4 .ensures) (c .byte5 .ensures) n)
+loop-again c =
+    let inv = c .before .before .before .before .before .loop .inv in
+    let zone = few (c .before .before .before .before) in (
+      omega arith,
+      ends-next (inv .1) (c .before .before .before .byte2 .ensures) (c .before .before .byte3 .ensures) zone,
+      position-next (inv .2) (c .before .byte4 .ensures) (c .byte5 .ensures) zone,
+    )
 
 same-length : tie.Need-same-length Inv-loop μ-loop
-same-length c = ends-size (c .before .before .before .before .before .before .pre .0 .1) (c .before .before .byte .ensures) (c .before .loop .inv .0) (c .before .loop .inv .1) ∙ sym (ap length (c .before .before .before .before .before .before .pre .1 .0))
+same-length c = ends-long (c .before) ∙ sym (ap length (c .before .before .before .before .before .before .pre .1 .0))
 
 same-length-2 : tie.Need-same-length-2 Inv-loop μ-loop
-same-length-2 c = position-size (c .before .before .before .before .before .before .pre .0 .1) (c .before .before .byte .ensures) (c .before .loop .inv .0) (c .before .loop .inv .2) ∙ sym (ap length (c .before .before .before .before .before .before .pre .1 .1))
+same-length-2 c = position-long (c .before) ∙ sym (ap length (c .before .before .before .before .before .before .pre .1 .1))
 
 returns : tie.Need-returns Inv-loop μ-loop
-returns c = (ends-last (c .before .loop .inv .1) (c .before .before .byte .ensures) (c .before .loop .inv .0) (c .loop-test .left), position-last (c .before .loop .inv .2) (c .before .before .byte .ensures) (c .before .loop .inv .0) (c .loop-test .left))
+returns c =
+    let inv = c .before .loop .inv in
+    let zones = c .before .before .byte .ensures in
+    (ends-last (inv .1) zones (inv .0) (c .loop-test .left), position-last (inv .2) zones (inv .0) (c .loop-test .left))
 
 pub arrays-spec : {M : Type 1} → statement M
 arrays-spec =

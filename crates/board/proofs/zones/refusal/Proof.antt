@@ -46,7 +46,14 @@ loop-less : tie.Need-loop-less Inv-loop μ-loop
 loop-less c = omega arith
 
 loop-again : tie.Need-loop-again Inv-loop μ-loop
-loop-again c = (none-next (badZone _) (c .before .before .before .before .before .loop .inv .0) (c .before .before .before .before .loop-test .taken) (sym (c .before .before .before .bad .ensures) ∙ c .before .before .if1 .left), seen-free (c .before .before .before .before .before .loop .inv .1) (c .before .byte2 .ensures) (c .if2 .taken), again-free (c .before .before .before .before .before .loop .inv .1) (c .before .byte2 .ensures) (c .before .before .before .before .before .loop .inv .2) (c .if2 .taken))
+loop-again c =
+    let carrier = c .before .byte2 .ensures in
+    let tested = c .before .before .before in
+    let inv = tested .before .before .loop .inv in (
+      none-next (badZone _) (inv .0) (tested .before .loop-test .taken) (sym (tested .bad .ensures) ∙ c .before .before .if1 .left),
+      seen-free (inv .1) carrier (c .if2 .taken),
+      again-free (inv .1) carrier (inv .2) (c .if2 .taken),
+    )
 
 array-read-if3 : tie.Need-array-read-if3 Inv-loop μ-loop
 array-read-if3 c = c .before .byte2 .ensures .small
@@ -58,13 +65,29 @@ loop-less-2 : tie.Need-loop-less-2 Inv-loop μ-loop
 loop-less-2 c = omega arith
 
 loop-again-2 : tie.Need-loop-again-2 Inv-loop μ-loop
-loop-again-2 c = (none-next (badZone _) (c .before .before .before .before .before .before .loop .inv .0) (c .before .before .before .before .before .loop-test .taken) (sym (c .before .before .before .before .bad .ensures) ∙ c .before .before .before .if1 .left), seen-held (c .before .before .before .before .before .before .loop .inv .1) (c .before .before .byte2 .ensures), ⊎-elim (λ k. k .1 ∙ again-met (c .before .before .before .before .before .before .loop .inv .1) (c .before .before .byte2 .ensures) (c .before .if2 .left) (k .0 .taken)) (λ k. k .1 ∙ again-new (c .before .before .before .before .before .before .loop .inv .1) (c .before .before .byte2 .ensures) (c .before .before .before .before .before .before .loop .inv .2) (c .before .if2 .left) (k .0 .left)) (c .if3 .came))
+loop-again-2 c =
+    let carrier = c .before .before .byte2 .ensures in
+    let held = c .before .if2 .left in
+    let tested = c .before .before .before .before in
+    let inv = tested .before .before .loop .inv in (
+      none-next (badZone _) (inv .0) (tested .before .loop-test .taken) (sym (tested .bad .ensures) ∙ c .before .before .before .if1 .left),
+      seen-held (inv .1) carrier,
+      ⊎-elim (λ k. k .1 ∙ again-met (inv .1) carrier held (k .0 .taken)) (λ k. k .1 ∙ again-new (inv .1) carrier (inv .2) held (k .0 .left)) (c .if3 .came),
+    )
 
 returns-2 : tie.Need-returns-2 Inv-loop μ-loop
-returns-2 c = row-7 _ (none-met (badZone _) (c .before .before .before .byte .ensures) (c .before .before .loop .inv .0) (c .before .loop-test .left)) (sym (c .if4 .taken) ∙ all-met _ (c .before .before .before .byte .ensures) (c .before .before .loop .inv .0 .within) (c .before .loop-test .left) (c .before .before .loop .inv .2))
+returns-2 c =
+    let zones = c .before .before .before .byte .ensures in
+    let inv = c .before .before .loop .inv in
+    let all = c .before .loop-test .left in
+    row-7 _ (none-met (badZone _) zones (inv .0) all) (sym (c .if4 .taken) ∙ all-met _ zones (inv .0 .within) all (inv .2))
 
 returns-3 : tie.Need-returns-3 Inv-loop μ-loop
-returns-3 c = neither-6-7 _ (none-met (badZone _) (c .before .before .before .byte .ensures) (c .before .before .loop .inv .0) (c .before .loop-test .left)) (sym (c .if4 .left) ∙ all-met _ (c .before .before .before .byte .ensures) (c .before .before .loop .inv .0 .within) (c .before .loop-test .left) (c .before .before .loop .inv .2))
+returns-3 c =
+    let zones = c .before .before .before .byte .ensures in
+    let inv = c .before .before .loop .inv in
+    let all = c .before .loop-test .left in
+    neither-6-7 _ (none-met (badZone _) zones (inv .0) all) (sym (c .if4 .left) ∙ all-met _ zones (inv .0 .within) all (inv .2))
 
 pub refusal-spec : {M : Type 1} → statement M
 refusal-spec =

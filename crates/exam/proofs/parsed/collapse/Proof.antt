@@ -1,4 +1,5 @@
--- `parsed::collapse` meets its contract: what is left of the position is listed, by the laws of CollapseLaws.
+-- `parsed::collapse` meets its contract: 11 where the list is short, else what is left of the position is listed.
+-- From the contracts of `count_out`, `collapse_position` and `list_out`; each return is a law of CollapseLaws.
 use Prim.Native.Nat.{_≤_}
 use native.Mathlib.Omega.{arith}
 use denote.Ref.{now}

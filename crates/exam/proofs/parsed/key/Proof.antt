@@ -1,4 +1,5 @@
--- `parsed::key` meets its contract: 10, 11, or what was sent home and who is out then, by the laws of KeyGivenLaws.
+-- `parsed::key` meets its contract: 10, 11, or what was sent home and who is out then.
+-- From the contracts of `count_out`, `send_home`, `list_out` and `verdict`; each return is a law of KeyGivenLaws.
 use borrow.Author.Needs.{needs}
 use native.Mathlib.Omega.{arith}
 use denote.Ref.{now}

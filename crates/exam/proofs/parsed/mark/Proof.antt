@@ -1,4 +1,5 @@
 -- `parsed::mark` meets its contract: by the sheet's first word the plan is marked, or the claim, or neither.
+-- From the contracts of `mark_entries` and `mark_claim`; each return is a law of MarkLaws, by the tests that led to it.
 use borrow.Author.Needs.{needs}
 use native.Mathlib.Omega.{arith}
 use Prim.Native.Nat.{_<_}

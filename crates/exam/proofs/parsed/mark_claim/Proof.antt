@@ -1,4 +1,5 @@
 -- `parsed::mark_claim` meets its contract: the collapse writes the key's list, and the claim is held against it.
+-- At most 96 are out, so the list has room for all; each return is a law of MarkLaws, by the count and what `same_claim` gives.
 use borrow.Author.Needs.{needs}
 use native.Mathlib.Omega.{arith}
 use denote.Ref.{now}

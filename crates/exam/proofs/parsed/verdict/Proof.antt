@@ -1,4 +1,5 @@
--- `parsed::verdict` meets its contract, by the length of whatever list has so many numbers.
+-- `parsed::verdict` meets its contract: it gives the verdict of every list with so many numbers.
+-- Each arm of the match tells how long such a list is; KeyLaws has the verdict for none, for one and for more.
 use mathlib.Core.Path.{sym, _∙_}
 use Rattle.exam.proofs.KeyLaws.{verdict-none, verdict-one, verdict-more}
 use Rattle.exam.proofs.parsed.verdict.Statement.{statement}

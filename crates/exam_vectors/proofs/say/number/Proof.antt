@@ -1,4 +1,5 @@
--- `number` is safe: an element of 16 bits fits a `usize`.
+-- `number` is safe: it reads inside what it was lent, and an element of 16 bits fits a `usize`.
+-- The read is inside by the test; the element's bound is known of every slice of such elements.
 use borrow.Author.Needs.{needs}
 use native.Mathlib.Omega.{arith}
 use Rattle.exam_vectors.proofs.say.number.Statement.{statement}

@@ -1,5 +1,5 @@
--- `marker::out::mark_end` meets its contract. The loop's invariant: a zone is held from zone z on exactly where one is in the whole position.
--- Assumes nothing.
+-- `marker::out::mark_end` meets its contract: 34 where a carrier is still out, else 0.
+-- The invariant: a zone is held from zone z on exactly where one is in the whole position. The measure is how many zones are left.
 use Prim.Native.Nat.{_-_}
 use mathlib.Core.Path.{sym, ap, _∙_}
 use native.Mathlib.Omega.{arith}

@@ -1,5 +1,5 @@
--- `marker::out::still_out` meets its contract. The loop's invariant: what is found from zone z on is what is found in the whole position.
--- Assumes nothing.
+-- `marker::out::still_out` meets its contract: whether the carrier stands in a zone.
+-- The invariant: what is found from zone z on is what is found in the whole position. The measure is how many zones are left.
 use Prim.Native.Nat.{_-_}
 use mathlib.Core.Path.{sym, _∙_}
 use native.Mathlib.Omega.{arith}

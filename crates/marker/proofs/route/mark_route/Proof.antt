@@ -1,5 +1,5 @@
--- `marker::route::mark_route` meets its contract. The loop's invariant: the number of the words from place i on is the whole route's.
--- Assumes nothing.
+-- `marker::route::mark_route` meets its contract: it gives the number of the route.
+-- The invariant: the words from place i on, after word w, have the whole route's number. The measure is how many words are left.
 use Prim.Native.Nat.{_-_}
 use mathlib.Core.Path.{refl}
 use native.Mathlib.Omega.{arith}

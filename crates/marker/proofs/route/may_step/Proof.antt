@@ -1,5 +1,5 @@
 -- `marker::route::may_step` meets its contract: each return is the step rule as far as it was tested.
--- Assumes nothing.
+-- By `steps-tested` of RouteLaws: the rule with its tests replaced by what the code found.
 use mathlib.Core.Path.{refl, sym, _∙_}
 use mathlib.Core.Bool.{true, false}
 use borrow.Author.Needs.{needs}

@@ -1,5 +1,5 @@
 -- `marker::route::stands` meets its contract: each return is the test as far as it was taken.
--- Assumes nothing.
+-- By `standing-tested` of StandingLaws: the definition with its tests replaced by what the code found.
 use mathlib.Core.Path.{refl, sym}
 use mathlib.Core.Bool.{true, false}
 use borrow.Author.Needs.{needs}

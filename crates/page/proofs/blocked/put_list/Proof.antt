@@ -1,5 +1,5 @@
 -- `page::blocked::put_list` meets its contract: one text for no number, and else each number after a space.
--- Assumes nothing.
+-- The test of the length tells which text is asked for (PagePut); it is put by the contract of `put_text` or of `put_numbers`.
 use mathlib.Core.Path.{refl}
 use Rattle.page.proofs.PagePut.{blocked-none, blocked-some}
 use Rattle.page.proofs.blocked.put_list.Statement.{statement}

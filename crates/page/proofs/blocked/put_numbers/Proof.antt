@@ -1,5 +1,5 @@
--- `page::blocked::put_numbers` meets its contract. The loop's invariant: what is left to write is the numbers from j on, each after a space.
--- The measure is how many are left. Assumes nothing.
+-- `page::blocked::put_numbers` meets its contract: each number is put after a space.
+-- The invariant: what is left to write is the numbers from j on, each after a space (SpacedPut). The measure is how many are left.
 use Prim.Native.Nat.{_-_}
 use native.Mathlib.Omega.{arith}
 use lib.ListN.{length}

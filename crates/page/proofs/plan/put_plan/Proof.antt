@@ -1,5 +1,5 @@
--- `page::plan::put_plan` meets its contract. The loop's invariant: the words from k on are those of the entries whose lines are left to write.
--- The measure is how many words are left. Assumes nothing.
+-- `page::plan::put_plan` meets its contract: the line of each entry of the plan is put.
+-- The invariant: the words from k on are those of the entries whose lines are left to write (PlanPut). The measure is how many words are left.
 use Prim.Native.Nat.{_+_, _-_}
 use native.Mathlib.Omega.{arith}
 use lib.ListN.{length}

@@ -1,5 +1,5 @@
 -- `page::plan::put_word` meets its contract: the zone is put, and then + or - is stored.
--- Assumes nothing.
+-- The test of the heading tells the sign; after the zone there is room for it, and it makes the word's text (laws of WordPut).
 use native.Mathlib.Omega.{arith}
 use lib.ListN.{length-set}
 use Rattle.page.proofs.PutLaws.{room-left}

@@ -1,5 +1,5 @@
--- The proof of the cycle of calls {put_number}. The measure is the number, which falls by its last digit.
--- Each way is a law of `NumberPut`. Assumes nothing.
+-- `page::put::put_number`, which calls itself, meets its contract: the number is put in decimal.
+-- The measure of the cycle of calls is the number, which falls by its last digit. Each way is a law of `NumberPut`.
 use Prim.Native.Nat.{ℕ, _<_}
 use native.Mathlib.Omega.{arith}
 use lib.ListN.{length-set}

@@ -1,5 +1,5 @@
 -- `page::put::put_labelled` meets its contract: the text is put, and then the number.
--- Assumes nothing.
+-- From the contracts of `put_text` and `put_number`: after the text the number is left to write, with room for it (PutLaws).
 use mathlib.Core.Path.{_∙_}
 use mathlib.Core.List.{[], _∷_}
 use Rattle.page.specs.Page.{decimal}

@@ -1,5 +1,5 @@
--- `page::put::put_text` meets its contract. The loop's invariant: the page is what it was with the first j bytes of the text copied in.
--- The measure is what is left of the text. Assumes nothing.
+-- `page::put::put_text` meets its contract: all bytes of the text are put.
+-- The invariant: the page is what it was with the first j bytes of the text copied in. The measure is what is left of the text.
 use Prim.Native.Nat.{_-_, _≤_}
 use mathlib.Core.Path.{_≡_, refl, _∙_}
 use native.Mathlib.Numerals.{add-one}

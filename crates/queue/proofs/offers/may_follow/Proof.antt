@@ -1,4 +1,5 @@
--- `may_follow` meets its contract, by the tests on each way.
+-- `may_follow` meets its contract: whether the word is in another zone, and one free to the carrier.
+-- On each way through the code the tests of the definition are replaced by what was found.
 use borrow.Author.Needs.{needs}
 use borrow.Author.Tests.{eq-eqb, ne-eqb}
 use Rattle.queue.proofs.offers.may_follow.Statement.{statement}

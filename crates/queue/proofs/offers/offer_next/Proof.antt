@@ -1,4 +1,5 @@
--- `offer_next` meets its contract: what is left of the chain decides the queue at the end.
+-- `offer_next` meets its contract: the words that may follow are offered to the queue in ascending order.
+-- The invariant: the rest of the chain, offered to the queue as it is now, gives the queue at the end. Chains ascend: 2 × zones - next falls.
 use Prim.Native.Nat.{_*_, _-_, _<_}
 use mathlib.Core.Path.{sym, _∙_}
 use native.Mathlib.Omega.{arith}

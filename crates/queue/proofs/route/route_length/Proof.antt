@@ -1,4 +1,5 @@
--- `route_length` meets its contract: n words lead from place j to the place asked for.
+-- `route_length` gives the count of words that lead from place 0 to the place asked for.
+-- The invariant: n - 1 words were passed, and the route is what leads to place j with them after it. The measure is j, which falls.
 use native.Mathlib.Omega.{arith}
 use Rattle.queue.proofs.Routing.{Counting, counting-starts, counting-more, counting-done}
 use Rattle.queue.proofs.route.route_length.Statement.{statement}

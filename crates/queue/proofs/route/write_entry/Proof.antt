@@ -1,4 +1,5 @@
--- `write_entry` meets its contract: two stores, and the route after them.
+-- `write_entry` meets its contract: the carrier, the count of words and the words are stored from place k on.
+-- From the contracts of `route_length` and `write_route`; the entry laws of Routing: the room is enough, and the stores make the entry.
 use borrow.Author.Needs.{needs}
 use mathlib.Core.Path.{_∙_}
 use native.Mathlib.Omega.{arith}

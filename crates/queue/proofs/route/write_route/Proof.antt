@@ -1,4 +1,5 @@
--- `write_route` meets its contract: the words from k on are stored, k falling with each.
+-- `write_route` stores the words of the route, the last of them before `end`.
+-- The invariant: the words after place j are stored from k on, and the route is what leads to j with them after it. The measure is j.
 use native.Mathlib.Omega.{arith}
 use borrow.Author.Needs.{needs}
 use Rattle.queue.proofs.Routing.{Storing, storing-starts, storing-room, storing-inside, storing-more, storing-done}

@@ -1,4 +1,5 @@
--- `link_words` meets its contract: the words from w on are linked, w falling to 0.
+-- `link_words` links the words that start at each point, ascending.
+-- The invariant: the chain of each point has its words from w on (laws of Chains). The measure is w, which falls to 0.
 use native.Mathlib.Omega.{arith}
 use borrow.Author.Needs.{needs}
 use Rattle.queue.proofs.Chains.{Linking, linking-starts, linking-inside, linking-more, linking-done}

@@ -3,15 +3,15 @@
 use Prim.Native.Nat.{ℕ, _+_, _*_, _/_, _%_, _≤_, _<_}
 use mathlib.Core.List.{List, map}
 use mathlib.Core.Path.{_≡_}
-use lib.ListN.{length, getD}
+use lib.ListN.{length}
 use mathlib.Core.Bool.{true, cond}
 use lib.Dec.{leb, eqb}
 use Rattle.model.specs.Lists.{below, any, count}
 use Rattle.model.specs.Track.{rev}
-use Rattle.model.specs.Reading.{byte, pointsSaid, homeSaid, zonesSaid, badZone, repeated, thin, apart}
-use Rattle.points.specs.Sets.{hasBit}
+use Rattle.model.specs.Reading.{byte, pointsSaid, homeSaid, zonesSaid, badZone, repeated, underTwo, apart}
+use Rattle.points.specs.Sets.{hasBit, Over}
 
--- a byte that was read, 0 past the end
+-- a byte that was read
 pub record ByteAt (b : List ℕ) (i r : ℕ) : Type 0 where
   pub is : r ≡ byte b i
   pub small : r < 256
@@ -29,8 +29,8 @@ unfoldable pub zoneRefusal : List ℕ → ℕ
 zoneRefusal b = cond (any (badZone b) (below (zonesSaid b))) 6 (cond (any (repeated b) (below (zonesSaid b))) 7 0)
 
 -- rows 8 and 9, where none before them holds
-unfoldable pub endRefusal : List ℕ → ℕ
-endRefusal b = cond (any (thin b) (below (pointsSaid b))) 8 (cond (apart b) 9 0)
+unfoldable pub linkRefusal : List ℕ → ℕ
+linkRefusal b = cond (any (underTwo b) (below (pointsSaid b))) 8 (cond (apart b) 9 0)
 
 -- what rows 4 and 6 leave: every number of a point is below P, and P is at most 64
 pub record Inside (b : List ℕ) : Type 0 where
@@ -39,10 +39,8 @@ pub record Inside (b : List ℕ) : Type 0 where
   pub word-in : (w : ℕ) → w < 2 * zonesSaid b → endSaid b w < pointsSaid b
 
 -- the ways are those of the first w words
-pub record Led (b ways : List ℕ) (w : ℕ) : Type 0 where
-  pub size : length ways ≡ 64
-  pub led : (v : ℕ) → v < w → hasBit (getD ways (endSaid b v) 0) (endSaid b (rev v)) ≡ true
-  pub no-other : (q r : ℕ) → hasBit (getD ways q 0) r ≡ true → (v : ℕ) × (v < w) × (endSaid b v ≡ q) × (endSaid b (rev v) ≡ r)
+abbrev pub WaysOf : List ℕ → List ℕ → ℕ → Type 0
+WaysOf b ways w = Over (endSaid b) (λ v. endSaid b (rev v)) (λ v. true) w ways
 
 -- how many of the first w words start at point p
 abbrev pub startsAt : List ℕ → ℕ → ℕ → ℕ

@@ -2,8 +2,8 @@
 -- The index is in the slice.
 use native.Mathlib.Omega.{arith}
 use borrow.Author.Needs.{needs}
-use Rattle.board.proofs.said.byte.Statement.{statement}
-use Rattle.board.proofs.said.byte.Tie as tie
+use Rattle.board.proofs.input.byte.Statement.{statement}
+use Rattle.board.proofs.input.byte.Tie as tie
 
 shared-slice-read-result : tie.Need-shared-slice-read-result
 shared-slice-read-result c = search needs

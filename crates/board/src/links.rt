@@ -1,24 +1,24 @@
 // Rows 8 and 9: that each point but home has two zones, and that all points hang together.
-use crate::said::byte;
+use crate::input::byte;
 ghost use Prim.Native.Nat.{_*_, _^_, _<_};
 ghost use mathlib.Core.Path.{_≡_};
 ghost use lib.ListN.{replicate};
 ghost use lib.Bits.{bitOr, bitAnd};
 ghost use Rattle.model.specs.Reading.{zonesSaid};
-ghost use Rattle.board.specs.Tables.{Whole, Inside, Led, Doubled, endRefusal};
+ghost use Rattle.board.specs.Inner.{Whole, Inside, WaysOf, Doubled, linkRefusal};
 
 // `twice` with point p, if it is in `once`.
-fn again(once: u64, twice: u64, p: usize) -> u64
+fn add_second(once: u64, twice: u64, p: usize) -> u64
     requires { ⌜ p < 64 ⌝ }
     ensures { λ r. ⌜ r ≡ bitOr twice (bitAnd once (2 ^ p)) ⌝ }
 {
     twice | (once & (1u64 << p))
 }
 
-// Lays the ways of all words; gives the points where two words or more start.
-fn lay_ways(bytes: &[u8], ways: &mut [u64]) -> u64
+// Adds the ways of all words; gives the points where two words or more start.
+fn add_ways(bytes: &[u8], ways: &mut [u64]) -> u64
     requires { ⌜ (Whole (now bytes) × Inside (now bytes)) × (now ways ≡ replicate 64 0) ⌝ }
-    ensures { λ r. ⌜ Led (now (bytes .entry)) (now (ways .exit)) (2 * zonesSaid (now (bytes .entry))) × Doubled (now (bytes .entry)) r ⌝ }
+    ensures { λ r. ⌜ WaysOf (now (bytes .entry)) (now (ways .exit)) (2 * zonesSaid (now (bytes .entry))) × Doubled (now (bytes .entry)) r ⌝ }
 {
     let zones = byte(bytes, 5);
     let mut once = 0;
@@ -27,9 +27,9 @@ fn lay_ways(bytes: &[u8], ways: &mut [u64]) -> u64
     while z < zones {
         let a = byte(bytes, 4 * z + 6);
         let b = byte(bytes, 4 * z + 7);
-        twice = again(once, twice, a);
+        twice = add_second(once, twice, a);
         once = points::with(once, a);
-        twice = again(once, twice, b);
+        twice = add_second(once, twice, b);
         once = points::with(once, b);
         points::add_way(ways, a, b);
         points::add_way(ways, b, a);
@@ -42,14 +42,14 @@ fn lay_ways(bytes: &[u8], ways: &mut [u64]) -> u64
 // are where they don't hang together.
 pub fn refusal(bytes: &[u8]) -> u32
     requires { ⌜ Whole (now bytes) × Inside (now bytes) ⌝ }
-    ensures { λ r. ⌜ r ≡ endRefusal (now (bytes .entry)) ⌝ }
+    ensures { λ r. ⌜ r ≡ linkRefusal (now (bytes .entry)) ⌝ }
 {
     let points = byte(bytes, 3);
     let home = byte(bytes, 4);
     let mut ways = [0u64; 64];
-    let twice = lay_ways(bytes, &mut ways);
-    let thin = points::without(points::all(points), points::with(twice, home));
-    if thin != 0 {
+    let twice = add_ways(bytes, &mut ways);
+    let under_two = points::without(points::all(points), points::with(twice, home));
+    if under_two != 0 {
         return 8;
     }
     let reached = points::grow(&ways, home);

@@ -1,7 +1,7 @@
 // One byte of the board.
 ghost use Prim.Native.Nat.{_<_};
 ghost use lib.ListN.{length};
-ghost use Rattle.board.specs.Tables.{ByteAt};
+ghost use Rattle.board.specs.Inner.{ByteAt};
 
 pub fn byte(bytes: &[u8], i: usize) -> usize
     requires { ⌜ i < length (now bytes) ⌝ }

@@ -1,7 +1,11 @@
-/* The key of a board, its collapse, and the mark of a sheet: the proved library, for C.
+/* The key of a board, its collapse, and the mark of a sheet: the proved library, for C on x86-64 Linux.
  *
- * Link target/staticlib/libexports.a, which `rt staticlib exports` writes. Lengths count elements. A pointer with length 0 may point
- * anywhere that is not null. Numbers are those of the table in the README; a call never fails in another way, whatever the bytes.
+ * Link target/staticlib/libexports.a, which `rt staticlib exports` writes. The numbers are those of the table in the README; a call never
+ * fails in another way, whatever the bytes. Lengths count elements. A pointer with length 0 may point anywhere that is not null. What a
+ * call writes (plan, list, out) must not overlap anything else that it is lent.
+ *
+ * Plan: for each carrier in turn its number, the count of words of its route, the words; a word is 2 x zone + heading. Sheet: 0 and a plan,
+ * or 1 and the blocked carriers ascending. 18624 words and 96 numbers are room enough for every board.
  */
 #ifndef NIZKABEL_H
 #define NIZKABEL_H

@@ -48,7 +48,7 @@ fn agree(board: &[u8], sheet: &[u16]) {
     let (mut plan, mut list) = (vec![0u16; 96 * 194], vec![0u8; 96]);
     let (mut port_plan, mut port_list) = (plan.clone(), list.clone());
     let key = nizkabel::key(board, &mut plan, &mut list);
-    assert_eq!((key.verdict, key.words, key.length), port::key(board, &mut port_plan, &mut port_list, false));
+    assert_eq!((key.verdict, key.words, key.count), port::key(board, &mut port_plan, &mut port_list, false));
     assert_eq!((&plan, &list), (&port_plan, &port_list));
     let collapse = nizkabel::collapse(board, &mut list);
     assert_eq!((collapse.number, collapse.count), port::collapse(board, &mut port_list));

@@ -6,20 +6,21 @@
 //! let mut plan = [0u16; 6];
 //! let mut list = [0u8; 1];
 //! let key = nizkabel::key(&board, &mut plan, &mut list);
-//! assert_eq!((key.verdict, key.words, key.length), (0, 4, 0));
+//! assert_eq!((key.verdict, key.words, key.count), (0, 4, 0));
 //! assert_eq!(plan[..4], [7, 2, 0, 3]);
 //! assert_eq!(nizkabel::mark(&board, &[0, 7, 2, 0, 3]), 0);
 //! ```
 
-/// What the key gives: the verdict, the words written to the plan, the numbers written to the list.
+/// What the key gives: the verdict (0 ordered, 20 two or more blocked, 21 one blocked, 1 to 11 turned back), the count of words written to
+/// the plan, the count of numbers written to the list.
 #[derive(Clone, Copy, Debug, PartialEq, Eq)]
 pub struct Key {
     pub verdict: u32,
     pub words: usize,
-    pub length: usize,
+    pub count: usize,
 }
 
-/// What the collapse gives: its number, and the numbers written to the list.
+/// What the collapse gives: its number (0, or 1 to 9 or 11), and the count of numbers written to the list.
 #[derive(Clone, Copy, Debug, PartialEq, Eq)]
 pub struct Collapse {
     pub number: u32,
@@ -33,12 +34,12 @@ extern "C" {
     fn nizkabel_mark(board: *const u8, board_len: usize, sheet: *const u16, sheet_len: usize) -> u32;
 }
 
-/// Draws the key. Past what is written, plan and list stay as they were.
+/// Draws the key. Past what is written, plan and list stay as they were. 18,624 words and 96 numbers are room enough for every board.
 pub fn key(board: &[u8], plan: &mut [u16], list: &mut [u8]) -> Key {
     let mut out = [0u32; 2];
     // SAFETY: each pointer comes with the length of the slice that it points to, and out has two elements.
     let verdict = unsafe { nizkabel_key(board.as_ptr(), board.len(), plan.as_mut_ptr(), plan.len(), list.as_mut_ptr(), list.len(), out.as_mut_ptr()) };
-    Key { verdict, words: out[0] as usize, length: out[1] as usize }
+    Key { verdict, words: out[0] as usize, count: out[1] as usize }
 }
 
 /// Collapses the board. Past what is written, the list stays as it was.
@@ -49,7 +50,7 @@ pub fn collapse(board: &[u8], list: &mut [u8]) -> Collapse {
     Collapse { number, count: out[0] as usize }
 }
 
-/// Marks a sheet.
+/// Marks a sheet: 0 where it is right, 30 to 35 where it is not, 1 to 9 for a bad board.
 pub fn mark(board: &[u8], sheet: &[u16]) -> u32 {
     // SAFETY: as for key; nothing is written.
     unsafe { nizkabel_mark(board.as_ptr(), board.len(), sheet.as_ptr(), sheet.len()) }

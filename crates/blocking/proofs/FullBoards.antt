@@ -9,11 +9,10 @@ use lib.Seq.{getD-set-other}
 use lib.Dec.{eqb}
 use borrow.Author.Tests.{eqb-true, eqb-false}
 use Rattle.model.specs.Track.{Track, zoneOf, headingOf, rev, start, leave}
-use Rattle.model.specs.Position.{Position, at, carrierOf, isFree, Stands, retire}
+use Rattle.model.specs.Position.{Position, at, carrierOf, isFree, Stands, retire, standing}
 use Rattle.model.specs.Accepted.{Laid}
 use Rattle.rules.specs.Tries.{Move, Allowed, enters, arrives, Moved, done, forbidden, Moves, none, more}
 use Rattle.rules.specs.Key.{named}
-use Rattle.rules.specs.Collapse.{standing}
 use Rattle.model.proofs.WordLaws.{zone-rev, rev-below, zone-below, same-zone}
 use Rattle.model.proofs.PositionLaws.{stands-below, laid-stands, laid-retire, at-without-kept}
 use Rattle.model.proofs.MoveLaws.{moved-laid}
@@ -63,10 +62,10 @@ module _ {t : Track} {p : Position} (laid : Laid t p) {H : ℕ → Type 0} (clos
 
         mine : eqb c (carrierOf (at q (zoneOf x))) ≡ true → ⊥
         mine e =
-            let there : Stands q (carrierOf (at q (zoneOf x))) (standing t q (zoneOf x)) = laid-stands t q (kept .laid-now) (zoneOf x) (zone-below (t .zones) x h) (held (isFree q (zoneOf x)) refl) in
-            let here : Stands q c (standing t q (zoneOf x)) = subst (λ (d : ℕ). Stands q d (standing t q (zoneOf x))) (sym (eqb-true c (carrierOf (at q (zoneOf x))) e)) there in
-            let same : standing t q (zoneOf x) ≡ u = kept .laid-now .once c (standing t q (zoneOf x)) u here s in
-            inner (leaves-out s x h out (sym (standing-zone t q (zoneOf x)) ∙ ap zoneOf same))
+            let there : Stands q (carrierOf (at q (zoneOf x))) (standing q (zoneOf x)) = laid-stands t q (kept .laid-now) (zoneOf x) (zone-below (t .zones) x h) (held (isFree q (zoneOf x)) refl) in
+            let here : Stands q c (standing q (zoneOf x)) = subst (λ (d : ℕ). Stands q d (standing q (zoneOf x))) (sym (eqb-true c (carrierOf (at q (zoneOf x))) e)) there in
+            let same : standing q (zoneOf x) ≡ u = kept .laid-now .once c (standing q (zoneOf x)) u here s in
+            inner (leaves-out s x h out (sym (standing-zone q (zoneOf x)) ∙ ap zoneOf same))
 
         by : (b : Bool) → eqb c (carrierOf (at q (zoneOf x))) ≡ b → at (retire c q) (zoneOf x) ≡ at p (zoneOf x)
         by true e = absurd (mine e)

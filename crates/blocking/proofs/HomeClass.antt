@@ -5,12 +5,12 @@ use mathlib.Core.Path.{_≡_, refl, sym, _∙_, subst}
 use mathlib.Core.Logic.{_↔_}
 use mathlib.Core.Bool.{true, false}
 use Rattle.model.specs.Track.{Track, zoneOf, rev, start, leave}
-use Rattle.model.specs.Position.{Position, isFree, Stands}
+use Rattle.model.specs.Position.{Position, isFree, Stands, standing}
 use Rattle.model.specs.Labels.{label}
 use Rattle.model.specs.Accepted.{Laid}
 use Rattle.model.proofs.WordLaws.{zone-below, rev-below}
 use Rattle.model.proofs.PositionLaws.{stands-word, stands-below, stands-not-free}
-use Rattle.rules.specs.Collapse.{standing, joined, mergeAll}
+use Rattle.rules.specs.Collapse.{joined, mergeAll}
 use Rattle.blocking.proofs.HomeSet.{Closed, HomeSet}
 use Rattle.blocking.proofs.Joining.{free-joined, turning-joined}
 use Rattle.blocking.proofs.Merging.{marked, sound-all, keeps-all, alike-leads}
@@ -22,7 +22,7 @@ InHome t p q = label (mergeAll t p .labels) q ≡ label (mergeAll t p .labels) (
 
 module _ {t : Track} {p : Position} (laid : Laid t p) where
   -- a held zone is marked exactly where its carrier leaves in home's set
-  pub marked-leaves : (z : ℕ) → z < t .zones → isFree p z ≡ false → (marked (mergeAll t p) z ≡ true) ↔ InHome t p (leave t (standing t p z))
+  pub marked-leaves : (z : ℕ) → z < t .zones → isFree p z ≡ false → (marked (mergeAll t p) z ≡ true) ↔ InHome t p (leave t (standing p z))
   marked-leaves z h f = (sound-all laid .leaves-home z h, λ i. settled-all laid z h (alike-leads laid (mergeAll t p) z f i))
 
   -- points alike after joining are alike at the end

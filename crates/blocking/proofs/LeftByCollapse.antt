@@ -7,12 +7,12 @@ use mathlib.Core.Logic.{_⊎_, inl, inr}
 use mathlib.Core.Bool.{Bool, true, false, true≢false}
 use borrow.Author.Tests.{eqb-false}
 use Rattle.model.specs.Track.{Track, zoneOf, rev, start, leave}
-use Rattle.model.specs.Position.{Position, at, carrierOf, isFree, Stands}
+use Rattle.model.specs.Position.{Position, at, carrierOf, isFree, Stands, standing}
 use Rattle.model.specs.Labels.{label}
 use Rattle.model.specs.Accepted.{Laid}
 use Rattle.rules.specs.Routes.{Step, Onward, arrives, goes, Route, route}
 use Rattle.rules.specs.Tries.{CanGo}
-use Rattle.rules.specs.Collapse.{freeParts, loopIn, turns, standing}
+use Rattle.rules.specs.Collapse.{freeParts, loopIn, turns}
 use Rattle.model.proofs.WordLaws.{zone-rev, rev-below, zone-below, leave-rev, same-zone}
 use Rattle.model.proofs.PositionLaws.{stands-carrier, stands-below, stands-not-free, laid-stands}
 use Rattle.order.proofs.Within.{Within, stands-before}
@@ -36,7 +36,7 @@ module _ {t : Track} {p q : Position} (laid : Laid t p) {H : ℕ → Type 0} (cl
   free-before v h f out = by (isFree p (zoneOf v)) refl
     where
       x : ℕ
-      x = standing t p (zoneOf v)
+      x = standing p (zoneOf v)
 
       leaves-out : Stands p (carrierOf (at p (zoneOf v))) x → (v ≡ x) ⊎ (v ≡ rev x) → H (leave t x) → ⊥
       leaves-out s (inl e) i = out (subst (λ (y : ℕ). H (start t y)) (sym e) (closed .behind (carrierOf (at p (zoneOf v))) x s i))
@@ -44,9 +44,9 @@ module _ {t : Track} {p q : Position} (laid : Laid t p) {H : ℕ → Type 0} (cl
 
       never : Stands p (carrierOf (at p (zoneOf v))) x → ⊥
       never s =
-          let out-x : H (leave t x) → ⊥ = leaves-out s (same-zone v x (sym (standing-zone t p (zoneOf v)))) in
+          let out-x : H (leave t x) → ⊥ = leaves-out s (same-zone v x (sym (standing-zone p (zoneOf v)))) in
           let held : isFree q (zoneOf x) ≡ false = stands-not-free (still (carrierOf (at p (zoneOf v))) x s out-x) in
-          true≢false (sym f ∙ ap (isFree q) (sym (standing-zone t p (zoneOf v))) ∙ held)
+          true≢false (sym f ∙ ap (isFree q) (sym (standing-zone p (zoneOf v))) ∙ held)
 
       by : (b : Bool) → isFree p (zoneOf v) ≡ b → isFree p (zoneOf v) ≡ true
       by true g = g
@@ -60,17 +60,17 @@ module _ {t : Track} {p q : Position} (laid : Laid t p) {H : ℕ → Type 0} (cl
   module _ (c e : ℕ) (stands : Stands p c e) (leaves : H (leave t e) → ⊥) where
     -- a step into a held zone is a step into its own
     own-zone : {w v : ℕ} → Step t q c w v → isFree q (zoneOf v) ≡ false → zoneOf v ≡ zoneOf e
-    own-zone {w} {v} st held = sym (standing-zone t p (zoneOf v)) ∙ ap zoneOf (laid .once c (standing t p (zoneOf v)) e mine stands)
+    own-zone {w} {v} st held = sym (standing-zone p (zoneOf v)) ∙ ap zoneOf (laid .once c (standing p (zoneOf v)) e mine stands)
       where
-        there : Stands q (carrierOf (at p (zoneOf v))) (standing t p (zoneOf v))
+        there : Stands q (carrierOf (at p (zoneOf v))) (standing p (zoneOf v))
         there = held-stands laid within (zoneOf v) (zone-below (t .zones) v (st .word)) held
 
         is-c : (at q (zoneOf v) ≡ 0) ⊎ (carrierOf (at q (zoneOf v)) ≡ c) → carrierOf (at p (zoneOf v)) ≡ c
         is-c (inl z) = absurd (eqb-false (at q (zoneOf v)) 0 held z)
-        is-c (inr m) = sym (stands-carrier there) ∙ ap (λ (z : ℕ). carrierOf (at q z)) (standing-zone t p (zoneOf v)) ∙ m
+        is-c (inr m) = sym (stands-carrier there) ∙ ap (λ (z : ℕ). carrierOf (at q z)) (standing-zone p (zoneOf v)) ∙ m
 
-        mine : Stands p c (standing t p (zoneOf v))
-        mine = subst (λ (d : ℕ). Stands p d (standing t p (zoneOf v))) (is-c (st .clear)) (stands-before within there)
+        mine : Stands p c (standing p (zoneOf v))
+        mine = subst (λ (d : ℕ). Stands p d (standing p (zoneOf v))) (is-c (st .clear)) (stands-before within there)
 
     -- with a loop in its part it stays outside: both ends of its zone are
     module _ (turning : turns t p (freeParts t p) (zoneOf e) ≡ true) where

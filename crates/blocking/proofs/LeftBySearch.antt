@@ -6,12 +6,12 @@ use mathlib.Core.Path.{_≡_, refl, sym, _∙_, ap, subst}
 use mathlib.Core.Logic.{_⊎_, inl, inr}
 use mathlib.Core.Bool.{Bool, true, false, true≢false}
 use Rattle.model.specs.Track.{Track, Linked, here, over, zoneOf, rev, start, leave}
-use Rattle.model.specs.Position.{Position, at, carrierOf, isFree, Stands}
+use Rattle.model.specs.Position.{Position, at, carrierOf, isFree, Stands, standing}
 use Rattle.model.specs.Labels.{label}
 use Rattle.model.specs.Accepted.{Laid}
 use Rattle.rules.specs.Routes.{Step, goes, route}
 use Rattle.rules.specs.Tries.{NoneCanGo}
-use Rattle.rules.specs.Collapse.{freeParts, loopIn, turns, standing}
+use Rattle.rules.specs.Collapse.{freeParts, loopIn, turns}
 use Rattle.model.proofs.WordLaws.{zone-rev, rev-below, zone-below, leave-rev, same-zone}
 use Rattle.model.proofs.PositionLaws.{stands-carrier, stands-below, stands-not-free}
 use Rattle.order.proofs.Within.{Within, stands-before}
@@ -83,14 +83,14 @@ module _ {t : Track} {p q : Position} (laid : Laid t p) (within : Within q p) (n
   turning-over : (w : ℕ) → w < 2 * t .zones → turns t p (freeParts t p) (zoneOf w) ≡ true → Near (start t w) → Near (leave t w)
   turning-over w h e near = by (isFree q (zoneOf w)) refl
     where
-      never : Stands q (carrierOf (at p (zoneOf w))) (standing t p (zoneOf w)) → (w ≡ standing t p (zoneOf w)) ⊎ (w ≡ rev (standing t p (zoneOf w))) → ⊥
+      never : Stands q (carrierOf (at p (zoneOf w))) (standing p (zoneOf w)) → (w ≡ standing p (zoneOf w)) ⊎ (w ≡ rev (standing p (zoneOf w))) → ⊥
       never s (inl x) =
           starts-far s (ap (turns t p (freeParts t p)) (sym (ap zoneOf x)) ∙ e) (subst (λ (v : ℕ). Near (start t v)) x near)
       never s (inr x) = leaves-far s (subst (λ (v : ℕ). Near (start t v)) x near)
 
       by : (b : Bool) → isFree q (zoneOf w) ≡ b → Near (leave t w)
       by true f = forth-over w h f near
-      by false f = absurd (never (held-stands laid within (zoneOf w) (zone-below (t .zones) w h) f) (same-zone w (standing t p (zoneOf w)) (sym (standing-zone t p (zoneOf w)))))
+      by false f = absurd (never (held-stands laid within (zoneOf w) (zone-below (t .zones) w h) f) (same-zone w (standing p (zoneOf w)) (sym (standing-zone p (zoneOf w)))))
 
   behind-over : (c w : ℕ) → Stands p c w → Near (leave t w) → Near (start t w)
   behind-over c w s near = by (isFree q (zoneOf w)) refl

@@ -8,14 +8,14 @@ use mathlib.Core.Bool.{Bool, true, false, not, _&&_}
 use borrow.Author.Tests.{not-true}
 use Rattle.model.specs.Lists.{below, keep, Ascending}
 use Rattle.model.specs.Track.{Track, zoneOf, leave}
-use Rattle.model.specs.Position.{Position, at, carrierOf, isFree, Stands}
+use Rattle.model.specs.Position.{Position, at, carrierOf, isFree, Stands, standing}
 use Rattle.model.specs.Accepted.{Laid}
 use Rattle.model.proofs.BoolLaws.{both-ways, not-true-false, and-left, and-right}
 use Rattle.model.proofs.ListLaws.{mem-below, below-mem, mem-keep, keep-mem}
 use Rattle.model.proofs.AscendingLaws.{mem-ascending, ascending-mem, NoRepeats, ascending-strict, keep-ascending, below-ascending, ascending-no-repeats}
 use Rattle.model.proofs.WordLaws.{zone-below}
 use Rattle.model.proofs.PositionLaws.{stands-carrier, stands-word, stands-below, stands-not-free, laid-stands}
-use Rattle.rules.specs.Collapse.{standing, mergeAll, left}
+use Rattle.rules.specs.Collapse.{mergeAll, left}
 use Rattle.blocking.proofs.Standings.{standing-zone}
 use Rattle.blocking.proofs.Merging.{marked}
 use Rattle.blocking.proofs.HomeClass.{InHome, marked-leaves}
@@ -48,7 +48,7 @@ module _ {t : Track} {p : Position} (laid : Laid t p) where
       let h : r .0 < t .zones = mem-below (t .zones) (k .0) in
       let held : isFree p (r .0) ≡ false = stays-held (r .0) (k .1) in
       let open-now : marked (mergeAll t p) (r .0) ≡ false = not-true (marked (mergeAll t p) (r .0)) (and-right (not (isFree p (r .0))) (not (marked (mergeAll t p) (r .0))) (k .1)) in
-      (standing t p (r .0), subst (λ (d : ℕ). Stands p d (standing t p (r .0))) (r .2) (laid-stands t p laid (r .0) h held), λ i. both-ways (marked-leaves laid (r .0) h held .1 i) open-now)
+      (standing p (r .0), subst (λ (d : ℕ). Stands p d (standing p (r .0))) (r .2) (laid-stands t p laid (r .0) h held), λ i. both-ways (marked-leaves laid (r .0) h held .1 i) open-now)
 
   -- and always there
   pub left-mem : (c w : ℕ) → Stands p c w → (InHome t p (leave t w) → ⊥) → List·Memᴰ c (left t p)
@@ -75,13 +75,13 @@ module _ {t : Track} {p : Position} (laid : Laid t p) where
   unfolding left
   left-ascending = ascending-strict (map held-by (keep stays (below (t .zones)))) (map-no-repeats held-by (keep stays (below (t .zones))) one-zone (ascending-no-repeats (keep stays (below (t .zones))) (keep-ascending stays (below (t .zones)) (below-ascending (t .zones)))))
     where
-      there : (z : ℕ) → List·Memᴰ z (keep stays (below (t .zones))) → Stands p (held-by z) (standing t p z)
+      there : (z : ℕ) → List·Memᴰ z (keep stays (below (t .zones))) → Stands p (held-by z) (standing p z)
       there z i =
           let k : List·Memᴰ z (below (t .zones)) × (stays z ≡ true) = mem-keep stays (below (t .zones)) i in
           laid-stands t p laid z (mem-below (t .zones) (k .0)) (stays-held z (k .1))
 
       one-zone : (x y : ℕ) → List·Memᴰ x (keep stays (below (t .zones))) → List·Memᴰ y (keep stays (below (t .zones))) → held-by x ≡ held-by y → x ≡ y
       one-zone x y i j e =
-          sym (standing-zone t p x)
-          ∙ ap zoneOf (laid .once (held-by x) (standing t p x) (standing t p y) (there x i) (subst (λ (c : ℕ). Stands p c (standing t p y)) (sym e) (there y j)))
-          ∙ standing-zone t p y
+          sym (standing-zone p x)
+          ∙ ap zoneOf (laid .once (held-by x) (standing p x) (standing p y) (there x i) (subst (λ (c : ℕ). Stands p c (standing p y)) (sym e) (there y j)))
+          ∙ standing-zone p y

@@ -10,10 +10,10 @@ use lib.Dec.{eqb, leb}
 use borrow.Author.Tests.{eqb-true, eq-eqb, leb-true, leb-false}
 use Rattle.model.specs.Lists.{below, count}
 use Rattle.model.specs.Track.{Track, Linked, zoneOf, start, leave}
-use Rattle.model.specs.Position.{Position, at, isFree, Stands}
+use Rattle.model.specs.Position.{Position, at, isFree, Stands, standing}
 use Rattle.model.specs.Labels.{label}
 use Rattle.model.specs.Accepted.{Laid}
-use Rattle.rules.specs.Collapse.{freeParts, loopIn, turns, standing}
+use Rattle.rules.specs.Collapse.{freeParts, loopIn, turns}
 use Rattle.model.proofs.BoolLaws.{same-test}
 use Rattle.model.proofs.CountLaws.{count-below-ext}
 use Rattle.model.proofs.PositionLaws.{stands-word, stands-not-free}
@@ -27,7 +27,7 @@ use Rattle.blocking.proofs.Standings.{free-number, number-free}
 pub turns-loop : (t : Track) (ls : List ℕ) {p : Position} {c w : ℕ} → Stands p c w → turns t p ls (zoneOf w) ≡ loopIn t p ls (label ls (leave t w))
 unfolding turns
 turns-loop t ls {p} {c} {w} s =
-    ap (λ (b : Bool). not b && loopIn t p ls (label ls (leave t (standing t p (zoneOf w))))) (stands-not-free s)
+    ap (λ (b : Bool). not b && loopIn t p ls (label ls (leave t (standing p (zoneOf w))))) (stands-not-free s)
     ∙ ap (λ (v : ℕ). loopIn t p ls (label ls (leave t v))) (stands-word s)
 
 module _ {t : Track} {p : Position} (laid : Laid t p) where

@@ -11,7 +11,7 @@ use lib.Dec.{eqb}
 use borrow.Author.Tests.{eqb-true, eqb-false, eq-eqb, not-true}
 use Rattle.model.specs.Lists.{below, foldLeft}
 use Rattle.model.specs.Track.{Track, rev, start, leave}
-use Rattle.model.specs.Position.{Position, at, carrierOf, isFree, outs}
+use Rattle.model.specs.Position.{Position, at, carrierOf, isFree, outs, standing}
 use Rattle.model.specs.Labels.{label}
 use Rattle.model.specs.Accepted.{Laid}
 use Rattle.model.proofs.BoolLaws.{both-ways, and-left, and-right}
@@ -19,7 +19,7 @@ use Rattle.model.proofs.ListLaws.{mem-below, foldLeft-keeps, times-keeps}
 use Rattle.model.proofs.WordLaws.{rev-below}
 use Rattle.model.proofs.PositionLaws.{laid-stands}
 use Rattle.model.proofs.LabelLaws.{length-join, InJoin, join-same, same-join}
-use Rattle.rules.specs.Collapse.{standing, joined, Merging, leadsHome, mergeIf, mergeZone, mergeAll}
+use Rattle.rules.specs.Collapse.{joined, Merging, leadsHome, mergeIf, mergeZone, mergeAll}
 use Rattle.blocking.proofs.HomeSet.{Closed}
 use Rattle.blocking.proofs.Joining.{joined-length, joined-keeps}
 
@@ -64,28 +64,28 @@ abbrev pub after : Track → Position → Merging → ℕ → Merging
 after t p m z = mergeIf t p true m z
 
 module _ {t : Track} {p : Position} (laid : Laid t p) where
-  standing-word : (z : ℕ) → z < t .zones → standing t p z < 2 * t .zones
+  standing-word : (z : ℕ) → z < t .zones → standing p z < 2 * t .zones
   standing-word z h = omega arith
 
-  pub starts-in : (z : ℕ) → z < t .zones → start t (standing t p z) < t .points
-  starts-in z h = laid .inside (standing t p z) (standing-word z h)
+  pub starts-in : (z : ℕ) → z < t .zones → start t (standing p z) < t .points
+  starts-in z h = laid .inside (standing p z) (standing-word z h)
 
-  pub leaves-in : (z : ℕ) → z < t .zones → leave t (standing t p z) < t .points
-  leaves-in z h = laid .inside (rev (standing t p z)) (rev-below (t .zones) (standing t p z) (standing-word z h))
+  pub leaves-in : (z : ℕ) → z < t .zones → leave t (standing p z) < t .points
+  leaves-in z h = laid .inside (rev (standing p z)) (rev-below (t .zones) (standing p z) (standing-word z h))
 
   -- a zone that leads home is held, and its carrier leaves in home's part
   pub leads-held : (m : Merging) (z : ℕ) → leadsHome t p (m .labels) z ≡ true → isFree p z ≡ false
-  leads-held m z e = not-true (isFree p z) (and-left (not (isFree p z)) (eqb (label (m .labels) (leave t (standing t p z))) (label (m .labels) (t .home))) e)
+  leads-held m z e = not-true (isFree p z) (and-left (not (isFree p z)) (eqb (label (m .labels) (leave t (standing p z))) (label (m .labels) (t .home))) e)
 
-  pub leads-alike : (m : Merging) (z : ℕ) → leadsHome t p (m .labels) z ≡ true → Alike m (leave t (standing t p z)) (t .home)
+  pub leads-alike : (m : Merging) (z : ℕ) → leadsHome t p (m .labels) z ≡ true → Alike m (leave t (standing p z)) (t .home)
   leads-alike m z e =
-      eqb-true (label (m .labels) (leave t (standing t p z))) (label (m .labels) (t .home))
-      (and-right (not (isFree p z)) (eqb (label (m .labels) (leave t (standing t p z))) (label (m .labels) (t .home))) e)
+      eqb-true (label (m .labels) (leave t (standing p z))) (label (m .labels) (t .home))
+      (and-right (not (isFree p z)) (eqb (label (m .labels) (leave t (standing p z))) (label (m .labels) (t .home))) e)
 
-  pub alike-leads : (m : Merging) (z : ℕ) → isFree p z ≡ false → Alike m (leave t (standing t p z)) (t .home) → leadsHome t p (m .labels) z ≡ true
+  pub alike-leads : (m : Merging) (z : ℕ) → isFree p z ≡ false → Alike m (leave t (standing p z)) (t .home) → leadsHome t p (m .labels) z ≡ true
   alike-leads m z f e =
-      ap (λ (b : Bool). not b && eqb (label (m .labels) (leave t (standing t p z))) (label (m .labels) (t .home))) f
-      ∙ eq-eqb (label (m .labels) (leave t (standing t p z))) (label (m .labels) (t .home)) e
+      ap (λ (b : Bool). not b && eqb (label (m .labels) (leave t (standing p z))) (label (m .labels) (t .home))) f
+      ∙ eq-eqb (label (m .labels) (leave t (standing p z))) (label (m .labels) (t .home)) e
 
   module _ (m : Merging) (z : ℕ) (h : z < t .zones) (sized : Sized t m) where
     in-labels : (q : ℕ) → q < t .points → q < length (m .labels)
@@ -94,7 +94,7 @@ module _ {t : Track} {p : Position} (laid : Laid t p) where
     after-sized : Sized t (after t p m z)
     after-sized =
         record {
-          labels-sized = length-join (m .labels) (start t (standing t p z)) (t .home) ∙ sized .labels-sized;
+          labels-sized = length-join (m .labels) (start t (standing p z)) (t .home) ∙ sized .labels-sized;
           marks-sized = length-set (m .merged) z true ∙ sized .marks-sized;
         }
 
@@ -105,11 +105,11 @@ module _ {t : Track} {p : Position} (laid : Laid t p) where
     after-other x n = getD-set-other (m .merged) z x true false n
 
     after-alike : (r s : ℕ) → r < t .points → s < t .points → Alike m r s → Alike (after t p m z) r s
-    after-alike r s hr hs e = same-join (m .labels) (start t (standing t p z)) (t .home) r s (in-labels r hr) (in-labels s hs) (inl e)
+    after-alike r s hr hs e = same-join (m .labels) (start t (standing p z)) (t .home) r s (in-labels r hr) (in-labels s hs) (inl e)
 
-    after-home : Alike (after t p m z) (start t (standing t p z)) (t .home)
+    after-home : Alike (after t p m z) (start t (standing p z)) (t .home)
     after-home =
-        same-join (m .labels) (start t (standing t p z)) (t .home) (start t (standing t p z)) (t .home) (in-labels (start t (standing t p z)) (starts-in z h)) (in-labels (t .home) (laid .home-in)) (inr (inl refl, inr refl))
+        same-join (m .labels) (start t (standing p z)) (t .home) (start t (standing p z)) (t .home) (in-labels (start t (standing p z)) (starts-in z h)) (in-labels (t .home) (laid .home-in)) (inr (inl refl, inr refl))
 
     after-grown : Grown t m (after t p m z)
     after-grown = record { coarser = after-alike; still-marked = λ x e. by x e (eqb x z) refl }
@@ -127,8 +127,8 @@ pub record Sound (t : Track) (p : Position) (m : Merging) : Type 0 where
   pub sized : Sized t m
   pub grown : Grown t (before t p) m
   pub held : (z : ℕ) → z < t .zones → marked m z ≡ true → isFree p z ≡ false
-  pub leaves-home : (z : ℕ) → z < t .zones → marked m z ≡ true → Alike m (leave t (standing t p z)) (t .home)
-  pub starts-home : (z : ℕ) → z < t .zones → marked m z ≡ true → Alike m (start t (standing t p z)) (t .home)
+  pub leaves-home : (z : ℕ) → z < t .zones → marked m z ≡ true → Alike m (leave t (standing p z)) (t .home)
+  pub starts-home : (z : ℕ) → z < t .zones → marked m z ≡ true → Alike m (start t (standing p z)) (t .home)
 
 -- a set of points that has both or neither of two points with one label
 abbrev pub Keeps : Track → (ℕ → Type 0) → Merging → Type 0
@@ -172,11 +172,11 @@ module _ {t : Track} {p : Position} (laid : Laid t p) where
             grown = grown-more (s .grown) (after-grown laid m z h (s .sized));
             held = each-marked (λ x. isFree p x ≡ false) (leads-held laid m z leads) (s .held);
             leaves-home =
-                each-marked (λ x. Alike (after t p m z) (leave t (standing t p x)) (t .home)) (now (leave t (standing t p z)) (leaves-in laid z h) (leads-alike laid m z leads))
-                (λ x hx e. now (leave t (standing t p x)) (leaves-in laid x hx) (s .leaves-home x hx e));
+                each-marked (λ x. Alike (after t p m z) (leave t (standing p x)) (t .home)) (now (leave t (standing p z)) (leaves-in laid z h) (leads-alike laid m z leads))
+                (λ x hx e. now (leave t (standing p x)) (leaves-in laid x hx) (s .leaves-home x hx e));
             starts-home =
-                each-marked (λ x. Alike (after t p m z) (start t (standing t p x)) (t .home)) (after-home laid m z h (s .sized))
-                (λ x hx e. now (start t (standing t p x)) (starts-in laid x hx) (s .starts-home x hx e));
+                each-marked (λ x. Alike (after t p m z) (start t (standing p x)) (t .home)) (after-home laid m z h (s .sized))
+                (λ x hx e. now (start t (standing p x)) (starts-in laid x hx) (s .starts-home x hx e));
           }
 
   pub sound-round : (m : Merging) → Sound t p m → Sound t p (round t p m)
@@ -194,19 +194,19 @@ module _ {t : Track} {p : Position} (laid : Laid t p) where
     keeps-merge : (m : Merging) (z : ℕ) → z < t .zones → Sound t p m → Keeps t S m → Keeps t S (mergeZone t p m z)
     keeps-merge m z h s keeps = merge-cases t p (Keeps t S) m z keeps merged
       where
-        behind : leadsHome t p (m .labels) z ≡ true → S (start t (standing t p z))
+        behind : leadsHome t p (m .labels) z ≡ true → S (start t (standing p z))
         behind leads =
-            closed .behind (carrierOf (at p z)) (standing t p z) (laid-stands t p laid z h (leads-held laid m z leads))
-            (keeps (t .home) (leave t (standing t p z)) (laid .home-in) (leaves-in laid z h) (sym (leads-alike laid m z leads)) (closed .has-home))
+            closed .behind (carrierOf (at p z)) (standing p z) (laid-stands t p laid z h (leads-held laid m z leads))
+            (keeps (t .home) (leave t (standing p z)) (laid .home-in) (leaves-in laid z h) (sym (leads-alike laid m z leads)) (closed .has-home))
 
         merged : leadsHome t p (m .labels) z ≡ true → Keeps t S (after t p m z)
-        merged leads r s′ hr hs e i = by (join-same (m .labels) (start t (standing t p z)) (t .home) r s′ (in-labels laid m z h (s .sized) r hr) (in-labels laid m z h (s .sized) s′ hs) e)
+        merged leads r s′ hr hs e i = by (join-same (m .labels) (start t (standing p z)) (t .home) r s′ (in-labels laid m z h (s .sized) r hr) (in-labels laid m z h (s .sized) s′ hs) e)
           where
-            both : InJoin (m .labels) (start t (standing t p z)) (t .home) s′ → S s′
-            both (inl q) = keeps (start t (standing t p z)) s′ (starts-in laid z h) hs (sym q) (behind leads)
+            both : InJoin (m .labels) (start t (standing p z)) (t .home) s′ → S s′
+            both (inl q) = keeps (start t (standing p z)) s′ (starts-in laid z h) hs (sym q) (behind leads)
             both (inr q) = keeps (t .home) s′ (laid .home-in) hs (sym q) (closed .has-home)
 
-            by : Alike m r s′ ⊎ (InJoin (m .labels) (start t (standing t p z)) (t .home) r × InJoin (m .labels) (start t (standing t p z)) (t .home) s′) → S s′
+            by : Alike m r s′ ⊎ (InJoin (m .labels) (start t (standing p z)) (t .home) r × InJoin (m .labels) (start t (standing p z)) (t .home) s′) → S s′
             by (inl q) = keeps r s′ hr hs q i
             by (inr q) = both (q .1)
 

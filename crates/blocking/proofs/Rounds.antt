@@ -12,7 +12,7 @@ use lib.Dec.{eqb}
 use borrow.Author.Tests.{eqb-true, eqb-false, ne-eqb, not-true}
 use Rattle.model.specs.Lists.{below, consIf, keep, any, count, foldLeft, times}
 use Rattle.model.specs.Track.{Track, start, leave}
-use Rattle.model.specs.Position.{Position, at, carrierOf, isFree, outs}
+use Rattle.model.specs.Position.{Position, at, carrierOf, isFree, outs, standing}
 use Rattle.model.specs.Labels.{label, join}
 use Rattle.model.specs.Accepted.{Laid}
 use Rattle.model.proofs.BoolLaws.{both-ways, not-true-false, decided, and-left, and-right, and-both}
@@ -20,7 +20,7 @@ use Rattle.model.proofs.ListLaws.{length-below, mem-below, below-mem, any-below
 use Rattle.model.proofs.AscendingLaws.{length-ascending}
 use Rattle.model.proofs.PlaceLaws.{map-ext, getD-map-below}
 use Rattle.model.proofs.PositionLaws.{laid-numbered}
-use Rattle.rules.specs.Collapse.{standing, Merging, leadsHome, mergeIf, mergeZone, mergeAll}
+use Rattle.rules.specs.Collapse.{Merging, leadsHome, mergeIf, mergeZone, mergeAll}
 use Rattle.blocking.proofs.Merging.{marked, Grown, grown-same, grown-more, Sound, before, sound-before, after, after-marked, merge-cases, leads-held, leads-alike, alike-leads, leaves-in, round, sound-merge, sound-round, grown-merge}
 
 -- every zone that leads home is marked
@@ -54,7 +54,7 @@ module _ {t : Track} {p : Position} (laid : Laid t p) where
     where
       same : leadsHome t p (m .labels) z ≡ true → after t p m z ≡ m
       same leads =
-          let e : join (m .labels) (start t (standing t p z)) (t .home) ≡ m .labels = join-alike (m .labels) (start t (standing t p z)) (t .home) (s .starts-home z h (settled z h leads)) in
+          let e : join (m .labels) (start t (standing p z)) (t .home) ≡ m .labels = join-alike (m .labels) (start t (standing p z)) (t .home) (s .starts-home z h (settled z h leads)) in
           let f : set (m .merged) z true ≡ m .merged = ap (set (m .merged) z) (sym (settled z h leads)) ∙ set-getD (m .merged) z false in
           λ i. record { labels = e i; merged = f i }
 
@@ -85,7 +85,7 @@ module _ {t : Track} {p : Position} (laid : Laid t p) where
       still : leadsHome t p (mergeZone t p m a .labels) z ≡ true
       still =
           alike-leads laid (mergeZone t p m a) z (leads-held laid m z leads)
-          (grown-merge laid m a (small a (List·Memᴰ·head refl)) s .coarser (leave t (standing t p z)) (t .home) (leaves-in laid z in-zones) (laid .home-in) (leads-alike laid m z leads))
+          (grown-merge laid m a (small a (List·Memᴰ·head refl)) s .coarser (leave t (standing p z)) (t .home) (leaves-in laid z in-zones) (laid .home-in) (leads-alike laid m z leads))
 
       by : (z ≡ a) ⊎ List·Memᴰ z l → (List·Memᴰ z l → marked (foldLeft (mergeZone t p) (mergeZone t p m a) l) z ≡ true) → marked (foldLeft (mergeZone t p) (mergeZone t p m a) l) z ≡ true
       by (inl e) rest =

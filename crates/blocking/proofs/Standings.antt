@@ -7,10 +7,9 @@ use mathlib.Core.Bool.{Bool, true, false, true≢false}
 use native.Mathlib.Omega.{arith}
 use borrow.Author.Tests.{eqb-true, eqb-false, eq-eqb}
 use Rattle.model.specs.Track.{Track, zoneOf, headingOf}
-use Rattle.model.specs.Position.{Position, at, carrierOf, isFree, Stands}
+use Rattle.model.specs.Position.{Position, at, carrierOf, isFree, Stands, standing}
 use Rattle.model.specs.Accepted.{Laid}
 use Rattle.model.proofs.PositionLaws.{laid-stands}
-use Rattle.rules.specs.Collapse.{standing}
 use Rattle.order.proofs.Within.{Within}
 
 pub free-number : (p : Position) (z : ℕ) → isFree p z ≡ true → at p z ≡ 0
@@ -19,8 +18,8 @@ free-number p z e = eqb-true (at p z) 0 e
 pub number-free : (p : Position) (z : ℕ) → at p z ≡ 0 → isFree p z ≡ true
 number-free p z e = eq-eqb (at p z) 0 e
 
-pub standing-zone : (t : Track) (p : Position) (z : ℕ) → zoneOf (standing t p z) ≡ z
-standing-zone t p z = omega arith
+pub standing-zone : (p : Position) (z : ℕ) → zoneOf (standing p z) ≡ z
+standing-zone p z = omega arith
 
 pub within-free : {p q : Position} → Within q p → (z : ℕ) → isFree p z ≡ true → isFree q z ≡ true
 within-free {p} {q} within z e = by (within .kept z)
@@ -42,8 +41,8 @@ still-stands {p} {q} {c} {w} within s held =
     by (inl e) = e ∙ s .holds
     by (inr e) = absurd (eqb-false (at q (zoneOf w)) 0 held e)
 
-pub held-stands : {t : Track} {p q : Position} → Laid t p → Within q p → (z : ℕ) → z < t .zones → isFree q z ≡ false → Stands q (carrierOf (at p z)) (standing t p z)
-held-stands {t} {p} {q} laid within z h held = still-stands within (laid-stands t p laid z h (by (isFree p z) refl)) (ap (isFree q) (standing-zone t p z) ∙ held)
+pub held-stands : {t : Track} {p q : Position} → Laid t p → Within q p → (z : ℕ) → z < t .zones → isFree q z ≡ false → Stands q (carrierOf (at p z)) (standing p z)
+held-stands {t} {p} {q} laid within z h held = still-stands within (laid-stands t p laid z h (by (isFree p z) refl)) (ap (isFree q) (standing-zone p z) ∙ held)
   where
     by : (b : Bool) → isFree p z ≡ b → isFree p z ≡ false
     by true e = absurd (true≢false (sym (within-free within z e) ∙ held))

@@ -12,12 +12,12 @@ use lib.Pow.{ones-lt, pow-mono}
 use lib.Dec.{leb, eqb}
 use borrow.Author.Tests.{le-leb, lt-leb, leb-true, leb-false}
 use Rattle.model.specs.Lists.{below, consIf, count, any}
-use Rattle.model.specs.Reading.{underTwo, trackSaid, zonesSaid, homeSaid, pointsSaid}
+use Rattle.model.specs.Reading.{underTwo, trackSaid, zonesSaid, homeSaid, pointsSaid, endSaid}
 use Rattle.model.proofs.ListLaws.{count-append, below-any, below-any-false}
 use Rattle.points.specs.Sets.{hasBit, less, Lowest}
 use Rattle.points.proofs.BitLaws.{bit-none, bit-all, bit-or, bit-and, bit-alone, bit-with, bit-less, alone-word, less-word, less-in, point-below}
 use Rattle.points.proofs.LowestLaws.{trailing-lowest}
-use Rattle.board.specs.Inner.{ByteAt, endSaid, startsAt, Inside, Doubled}
+use Rattle.board.specs.Inner.{ByteAt, startsAt, Inside, Doubled}
 use Rattle.board.proofs.Filling.{map-next, first-end, second-end}
 use Rattle.board.proofs.Rows.{ltb-is}
 

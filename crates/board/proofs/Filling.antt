@@ -8,10 +8,10 @@ use mathlib.Core.Path.{_≡_, sym, _∙_, ap, ap₂}
 use lib.ListN.{length, set, replicate, length-map, length-append, length-replicate}
 use lib.Seq.{set-at}
 use Rattle.model.specs.Lists.{below}
-use Rattle.model.specs.Reading.{byte, trackSaid, positionSaid, zonesSaid, carrierIn, headingIn}
+use Rattle.model.specs.Reading.{byte, trackSaid, positionSaid, zonesSaid, carrierIn, headingIn, endSaid}
 use Rattle.model.proofs.ListLaws.{length-below, below-suc}
 use Rattle.board.specs.Given.{padded}
-use Rattle.board.specs.Inner.{ByteAt, endSaid}
+use Rattle.board.specs.Inner.{ByteAt}
 
 -- n places: f of each of the first w, then zeros
 abbrev pub filled : ℕ → (ℕ → ℕ) → ℕ → List ℕ

@@ -13,7 +13,7 @@ use Rattle.model.specs.Lists.{below, any, all, count}
 use Rattle.model.specs.Track.{Linked, rev, start, leave}
 use Rattle.model.specs.Track.Linked.{here}
 use Rattle.model.specs.Labels.{label, parts}
-use Rattle.model.specs.Reading.{pointsSaid, homeSaid, zonesSaid, outOfRange, badZone, trackSaid, apart}
+use Rattle.model.specs.Reading.{pointsSaid, homeSaid, zonesSaid, outOfRange, badZone, trackSaid, apart, endSaid}
 use Rattle.model.proofs.ListLaws.{all-below, below-all}
 use Rattle.model.proofs.WordLaws.{rev-below}
 use Rattle.model.proofs.LabelLaws.{parts-linked, linked-parts}
@@ -25,7 +25,7 @@ use Rattle.points.proofs.OverLaws.{over-none, over-added, over-ways, over-same}
 use Rattle.points.proofs.LinkedLaws.{reach-linked, linked-reach}
 use Rattle.points.proofs.FullLaws.{size-reached, reached-size}
 use Rattle.board.proofs.Filling.{first-end, second-end}
-use Rattle.board.specs.Inner.{ByteAt, endSaid, Inside, WaysOf}
+use Rattle.board.specs.Inner.{ByteAt, Inside, WaysOf}
 
 pub inside : (b : List ℕ) → outOfRange b ≡ false → any (badZone b) (below (zonesSaid b)) ≡ false → Inside b
 inside b range zones = record {

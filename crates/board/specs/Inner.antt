@@ -1,6 +1,6 @@
 -- What the reader's inner functions say: of one byte, of two rows at a time, and of the ways and the points with two zones.
 -- Nothing outside this crate speaks of these.
-use Prim.Native.Nat.{ℕ, _+_, _*_, _/_, _%_, _≤_, _<_}
+use Prim.Native.Nat.{ℕ, _+_, _*_, _≤_, _<_}
 use mathlib.Core.List.{List, map}
 use mathlib.Core.Path.{_≡_}
 use lib.ListN.{length}
@@ -8,17 +8,13 @@ use mathlib.Core.Bool.{true, cond}
 use lib.Dec.{leb, eqb}
 use Rattle.model.specs.Lists.{below, any, count}
 use Rattle.model.specs.Track.{rev}
-use Rattle.model.specs.Reading.{byte, pointsSaid, homeSaid, zonesSaid, badZone, repeated, underTwo, apart}
+use Rattle.model.specs.Reading.{byte, endSaid, pointsSaid, homeSaid, zonesSaid, badZone, repeated, underTwo, apart}
 use Rattle.points.specs.Sets.{hasBit, Over}
 
 -- a byte that was read
 pub record ByteAt (b : List ℕ) (i r : ℕ) : Type 0 where
   pub is : r ≡ byte b i
   pub small : r < 256
-
--- the point where the word w starts, as the bytes say it
-abbrev pub endSaid : List ℕ → ℕ → ℕ
-endSaid b w = byte b (4 * (w / 2) + w % 2 + 6)
 
 -- what rows 2 and 5 leave: six bytes of the head, and four for each zone
 abbrev pub Whole : List ℕ → Type 0

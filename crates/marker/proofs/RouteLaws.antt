@@ -3,23 +3,18 @@
 use Prim.Native.Nat.{ℕ, _+_, _*_, _≤_, _<_}
 use mathlib.Core.List.{List, [], _∷_}
 use mathlib.Core.Path.{_≡_, refl, sym, ap, _∙_}
-use mathlib.Core.Bool.{Bool, true, false, cond, not, _&&_, _||_}
+use mathlib.Core.Bool.{Bool, true, false, cond, not, _&&_}
 use native.Mathlib.Numerals.{add-one}
 use native.Mathlib.Omega.{arith}
 use lib.ListN.{length, getD, drop, drop-of-length-le}
 use lib.Seq.{drop-cons}
 use lib.Dec.{ltb, eqb}
 use borrow.Author.Tests.{lt-ltb, le-ltb, eq-eqb, ne-eqb, not-true, not-false}
-use Rattle.model.specs.Track.{Track, trackOf, zoneOf, rev, leave}
-use Rattle.model.specs.Position.{Position, at, carrierOf}
+use Rattle.model.specs.Track.{Track, trackOf, rev, leave}
+use Rattle.model.specs.Position.{Position, at}
 use Rattle.rules.specs.Key.{steps, leavesHome}
 use Rattle.rules.specs.Sheet.{follow, endsHome}
 use Rattle.marker.specs.Marked.{stepsBy, routeNumber}
-
--- the step rule by the outcomes of its first three tests
-pub steps-tested : (ends : List ℕ) (p : Position) (c w v : ℕ) (a b d : Bool) → eqb (getD ends v 0) (getD ends (rev w) 0) ≡ a → eqb (zoneOf v) (zoneOf w) ≡ b → eqb (at p (zoneOf v)) 0 ≡ d
-    → stepsBy ends p c w v ≡ (a && (not b && (d || eqb (carrierOf (at p (zoneOf v))) c)))
-steps-tested ends p c w v a b d e f g = rw (e, f, g)
 
 module _ (t : Track) (p : Position) (c w : ℕ) where
   -- the number of a route with one word more, by the two tests of that word

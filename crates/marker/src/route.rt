@@ -27,14 +27,7 @@ fn may_step(ends: &[usize], position: &[u32], carrier: u32, w: usize, v: usize) 
     if ends[v] != words::leaving(ends, w) {
         return false;
     }
-    if v / 2 == w / 2 {
-        return false;
-    }
-    let held = position[v / 2];
-    if held == 0 {
-        return true;
-    }
-    held / 2 == carrier
+    words::may_follow(position, carrier, w, v)
 }
 
 // A route by its standing and the words after it: 32 where a word breaks the moving rules or is 2 × Z or more, 33 where the last one

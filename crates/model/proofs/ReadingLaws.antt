@@ -13,7 +13,7 @@ use Rattle.model.specs.Lists.{below, any, all, count}
 use Rattle.model.specs.Track.{zoneOf, headingOf, rev, start}
 use Rattle.model.specs.Position.{at, Stands, Once}
 use Rattle.model.specs.Labels.{label, parts}
-use Rattle.model.specs.Reading.{byte, pointsSaid, homeSaid, zonesSaid, endA, endB, carrierIn, headingIn, trackSaid, positionSaid, tooShort, wrongLength, wrongVersion, outOfRange, wrongCount, badZone, repeated, underTwo, apart, refusal}
+use Rattle.model.specs.Reading.{byte, endSaid, pointsSaid, homeSaid, zonesSaid, endA, endB, carrierIn, headingIn, trackSaid, positionSaid, tooShort, wrongLength, wrongVersion, outOfRange, wrongCount, badZone, repeated, underTwo, apart, refusal}
 use Rattle.model.specs.Accepted.{Laid, Accepted, HangsTogether}
 use Rattle.model.proofs.BoolLaws.{both-ways, decided, and-left, and-right, and-both, or-false-left, or-false-right}
 use Rattle.model.proofs.ListLaws.{length-below, any-below-false, below-any, all-below, all-below-false}
@@ -232,9 +232,9 @@ module _ (b : List ℕ) (n : NoRow b) where
 -- what the bytes say of the track and the position
 
 module _ (b : List ℕ) where
-  pub start-said : (w : ℕ) → w < 2 * zonesSaid b → start (trackSaid b) w ≡ byte b (4 * (w / 2) + w % 2 + 6)
+  pub start-said : (w : ℕ) → w < 2 * zonesSaid b → start (trackSaid b) w ≡ endSaid b w
   unfolding trackSaid
-  start-said w h = getD-map-below (λ w. byte b (4 * (w / 2) + w % 2 + 6)) (2 * zonesSaid b) w 0 h
+  start-said w h = getD-map-below (endSaid b) (2 * zonesSaid b) w 0 h
 
   pub start-a : (w : ℕ) → w < 2 * zonesSaid b → headingOf w ≡ 0 → start (trackSaid b) w ≡ endA b (zoneOf w)
   start-a w h e = start-said w h ∙ ap (byte b) s
@@ -268,7 +268,7 @@ module _ (b : List ℕ) where
 
   pub length-ends : length (trackSaid b .ends) ≡ 2 * zonesSaid b
   unfolding trackSaid
-  length-ends = length-map (below (2 * zonesSaid b)) (λ w. byte b (4 * (w / 2) + w % 2 + 6)) ∙ length-below (2 * zonesSaid b)
+  length-ends = length-map (below (2 * zonesSaid b)) (endSaid b) ∙ length-below (2 * zonesSaid b)
 
   pub zones-said : trackSaid b .zones ≡ zonesSaid b
   unfolding trackSaid

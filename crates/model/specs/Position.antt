@@ -22,6 +22,10 @@ carrierOf v = v / 2
 abbrev pub isFree : Position → ℕ → Bool
 isFree p z = eqb (at p z) 0
 
+-- the word of what stands in a held zone
+abbrev pub standing : Position → ℕ → ℕ
+standing p z = 2 * z + headingOf (at p z)
+
 -- carrier c stands in the zone of w with w's heading: w is its standing
 pub record Stands (p : Position) (c w : ℕ) : Type 0 where
   pub numbered : c ≡ 0 → ⊥

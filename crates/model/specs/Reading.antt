@@ -39,13 +39,17 @@ module _ (b : List ℕ) where
   abbrev pub headingIn : ℕ → ℕ
   headingIn z = byte (4 * z + 9)
 
+  -- the point where the word w starts
+  abbrev pub endSaid : ℕ → ℕ
+  endSaid w = byte (4 * (w / 2) + w % 2 + 6)
+
   -- the track and the first position that the bytes say
   unfoldable pub trackSaid : Track
   trackSaid = record {
     points = pointsSaid;
     home = homeSaid;
     zones = zonesSaid;
-    ends = map (λ w. byte (4 * (w / 2) + w % 2 + 6)) (below (2 * zonesSaid));
+    ends = map endSaid (below (2 * zonesSaid));
   }
 
   unfoldable pub positionSaid : Position

@@ -10,7 +10,7 @@ use lib.ListN.{getD}
 use lib.Dec.{eqb, leb}
 use Rattle.model.specs.Lists.{below, count}
 use Rattle.model.specs.Track.{Track, trackOf, Linked, start}
-use Rattle.model.specs.Track.Linked.{here, over}
+use Rattle.model.specs.Track.Linked.{over}
 use Rattle.model.specs.Position.{Position, isFree}
 use Rattle.model.specs.Labels.{label}
 use Rattle.model.proofs.BoolLaws.{not-true-false, same-test}

@@ -9,12 +9,12 @@ use native.Mathlib.Omega.{arith}
 use borrow.Author.Tests.{eqb-true, eqb-false, ne-eqb, not-true}
 use lib.Dec.{eqb}
 use Rattle.model.specs.Track.{Track, zoneOf, headingOf, rev, start, leave}
-use Rattle.model.specs.Position.{Position, at, carrierOf, isFree, Stands}
+use Rattle.model.specs.Position.{Position, at, carrierOf, isFree, Stands, standing}
 use Rattle.model.specs.Labels.{label}
 use Rattle.model.proofs.BoolLaws.{decided, and-left}
 use Rattle.model.proofs.WordLaws.{zone-rev, rev-below, zone-below, heading-rev, heading-small, word-parts, leave-rev}
 use Rattle.model.proofs.PositionLaws.{stands-heading, stands-held, laid-stands, stands-below}
-use Rattle.rules.specs.Collapse.{standing, freeParts, loopIn, turns}
+use Rattle.rules.specs.Collapse.{freeParts, loopIn, turns}
 use Rattle.points.specs.Sets.{hasBit, Reach, Grown}
 use Rattle.points.specs.Sets.Reach.{here, on}
 use Rattle.parts.specs.Home.{Ready, Home, HomeWord}
@@ -27,18 +27,18 @@ module _ {t : Track} {p : Position} (ready : Ready t p) {s : ℕ} (looped : Loop
   goes = goesOn (t .ends) p true s
 
   -- a held zone turns where its carrier leaves at a point of a part with a loop
-  turns-by-set : (z : ℕ) → z < t .zones → (at p z ≡ 0 → ⊥) → turns t p (freeParts t p) z ≡ hasBit s (leave t (standing t p z))
+  turns-by-set : (z : ℕ) → z < t .zones → (at p z ≡ 0 → ⊥) → turns t p (freeParts t p) z ≡ hasBit s (leave t (standing p z))
   unfolding turns
   turns-by-set z h held =
-      ap (λ (b : Bool). not b && loopIn t p (freeParts t p) (label (freeParts t p) (leave t (standing t p z)))) (ne-eqb (at p z) 0 held)
-      ∙ sym (looped .exact (t .home) (leave t (standing t p z)) (ready .laid .inside (rev (standing t p z)) (omega arith)))
+      ap (λ (b : Bool). not b && loopIn t p (freeParts t p) (label (freeParts t p) (leave t (standing p z)))) (ne-eqb (at p z) 0 held)
+      ∙ sym (looped .exact (t .home) (leave t (standing p z)) (ready .laid .inside (rev (standing p z)) (omega arith)))
 
   turning-held : (z : ℕ) → turns t p (freeParts t p) z ≡ true → at p z ≡ 0 → ⊥
   unfolding turns
-  turning-held z e = eqb-false (at p z) 0 (not-true (isFree p z) (and-left (not (isFree p z)) (loopIn t p (freeParts t p) (label (freeParts t p) (leave t (standing t p z)))) e))
+  turning-held z e = eqb-false (at p z) 0 (not-true (isFree p z) (and-left (not (isFree p z)) (loopIn t p (freeParts t p) (label (freeParts t p) (leave t (standing p z)))) e))
 
   -- a word that has the heading of what stands in its zone is its standing
-  own-word : (w : ℕ) → headingOf w ≡ headingOf (at p (zoneOf w)) → standing t p (zoneOf w) ≡ w
+  own-word : (w : ℕ) → headingOf w ≡ headingOf (at p (zoneOf w)) → standing p (zoneOf w) ≡ w
   own-word w e = omega (arith, word-parts w)
 
   module _ (w : ℕ) (h : w < 2 * t .zones) where
@@ -54,7 +54,7 @@ module _ {t : Track} {p : Position} (ready : Ready t p) {s : ℕ} (looped : Loop
             ∙ sym (goes-by-set (t .ends) p true s w held refl own) ∙ g)
             i
         by-heading held (inr e) =
-            let other : standing t p (zoneOf w) ≡ rev w = omega (arith, word-parts w, eqb-false (headingOf w) (headingOf (at p (zoneOf w))) e) in
+            let other : standing p (zoneOf w) ≡ rev w = omega (arith, word-parts w, eqb-false (headingOf w) (headingOf (at p (zoneOf w))) e) in
             behind (carrierOf (at p (zoneOf w))) (rev w)
             (subst (λ (v : ℕ). Stands p (carrierOf (at p (zoneOf w))) v) other
             (laid-stands t p (ready .laid) (zoneOf w) (zone-below (t .zones) w h) (ne-eqb (at p (zoneOf w)) 0 held)))

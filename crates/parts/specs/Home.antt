@@ -1,13 +1,13 @@
 -- Home's set of points at the end of the collapse, and the position that is left when every carrier that leads into it is taken off.
 -- The proof that both are what document 01 lays out is in proofs/LeftCarriers.
-use Prim.Native.Nat.{ℕ, _+_, _*_, _^_, _≤_, _<_}
+use Prim.Native.Nat.{ℕ, _*_, _^_, _≤_, _<_}
 use mathlib.Core.List.{List, map}
 use mathlib.Core.Path.{_≡_}
 use mathlib.Core.Bool.{true, cond}
 use lib.ListN.{length, getD}
 use Rattle.model.specs.Lists.{below}
-use Rattle.model.specs.Track.{Track, zoneOf, headingOf, rev, start, leave}
-use Rattle.model.specs.Position.{Position, at, isFree, Stands, outs}
+use Rattle.model.specs.Track.{Track, zoneOf, rev, start, leave}
+use Rattle.model.specs.Position.{Position, at, isFree, Stands, outs, standing}
 use Rattle.model.specs.Accepted.{Laid}
 use Rattle.rules.specs.Collapse.{freeParts, turns, left}
 use Rattle.points.specs.Sets.{hasBit}
@@ -35,7 +35,7 @@ pub record HomeWord (t : Track) (p : Position) (s : ℕ) : Type 0 where
 
 -- the point where what stands in a zone leaves, from the ends
 abbrev pub leavesAt : List ℕ → Position → ℕ → ℕ
-leavesAt ends p z = getD ends (rev (2 * z + headingOf (at p z))) 0
+leavesAt ends p z = getD ends (rev (standing p z)) 0
 
 -- the zones whose carriers leave at a point of s are free, and the others as they were
 unfoldable pub leftPosition : List ℕ → ℕ → Position → Position

@@ -14,10 +14,10 @@ use Rattle.model.specs.Lists.{below, consIf, keep, any, count}
 use Rattle.model.specs.Track.{rev}
 use Rattle.model.proofs.ListLaws.{keep-keep, any-append}
 use Rattle.model.proofs.CountLaws.{count-one-more, count-below}
-use Rattle.rules.specs.Key.{nexts}
+use Rattle.rules.specs.Key.{mayFollow, nexts}
 use Rattle.least.specs.Queue.{Queue, inQueue, offerIf, offer, offerAll}
 use Rattle.queue.specs.Words.{Chain, stop, link}
-use Rattle.queue.specs.Searching.{zonesOnly, mayFollow, queueIn, Queued, Offering, Offered}
+use Rattle.queue.specs.Searching.{zonesOnly, queueIn, Queued, Offering, Offered}
 use Rattle.queue.proofs.Chains.{chain-low}
 
 -- a word that was not seen, put at the end of the queue

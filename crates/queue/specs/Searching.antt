@@ -2,12 +2,11 @@
 use Prim.Native.Nat.{ℕ, _*_, _≤_, _<_}
 use mathlib.Core.List.{List}
 use mathlib.Core.Path.{_≡_}
-use mathlib.Core.Bool.{Bool, not, _&&_, _||_}
 use lib.ListN.{length, getD, take}
 use lib.Dec.{eqb}
 use Rattle.model.specs.Lists.{below, any, count}
-use Rattle.model.specs.Track.{Track, trackOf, zoneOf}
-use Rattle.model.specs.Position.{Position, at, carrierOf}
+use Rattle.model.specs.Track.{Track, trackOf}
+use Rattle.model.specs.Position.{at}
 use Rattle.rules.specs.Key.{nexts}
 use Rattle.least.specs.Queue.{Queue, offerAll}
 use Rattle.queue.specs.Words.{Linked}
@@ -15,10 +14,6 @@ use Rattle.queue.specs.Words.{Linked}
 -- the zones of a track: all that the step rule reads of it
 abbrev pub zonesOnly : ℕ → List ℕ → Track
 zonesOnly zones ends = trackOf 0 0 zones ends
-
--- w is in another zone than `last`, which is free to carrier c
-abbrev pub mayFollow : Position → ℕ → ℕ → ℕ → Bool
-mayFollow p c last w = not (eqb (zoneOf w) (zoneOf last)) && (eqb (at p (zoneOf w)) 0 || eqb (carrierOf (at p (zoneOf w))) c)
 
 -- the board and the tables made of it
 pub record Tables (zones : ℕ) (ends p first after : List ℕ) : Type 0 where

@@ -1,23 +1,5 @@
 // The queue of a breadth-first search: the words found, each with the place of the word it was found from.
-ghost use mathlib.Core.Path.{_≡_};
-ghost use Prim.Native.Nat.{_/_, _<_};
-ghost use lib.ListN.{length};
-ghost use Rattle.queue.specs.Searching.{mayFollow, Offering, Offered};
-
-// Whether w is in another zone than `last`, and the zone of w is free to the carrier: nobody holds it, or the carrier itself does.
-fn may_follow(position: &[u32], carrier: u32, last: usize, w: usize) -> bool
-    requires { ⌜ w / 2 < length (now position) ⌝ }
-    ensures { λ r. ⌜ r ≡ mayFollow (now (position .entry)) carrier last w ⌝ }
-{
-    if w / 2 == last / 2 {
-        return false;
-    }
-    let held = position[w / 2];
-    if held == 0 {
-        return true;
-    }
-    held / 2 == carrier
-}
+ghost use Rattle.queue.specs.Searching.{Offering, Offered};
 
 // Offers the words that may follow `last`, ascending, as found from place i: each goes to the queue's end unless it is there already.
 // Gives the queue's new length.
@@ -44,7 +26,7 @@ pub fn offer_next(
     while next < 2 * zones {
         let w = next;
         next = after[w];
-        if !may_follow(position, carrier, last, w) {
+        if !words::may_follow(position, carrier, last, w) {
             continue;
         }
         if seen[w] == 1 {

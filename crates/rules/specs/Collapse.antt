@@ -1,20 +1,16 @@
 -- The collapse, laid out as document 01 does: free parts, joining once from the parts as first found, merging repeatedly. No route in it.
-use Prim.Native.Nat.{ℕ, _+_, _*_}
+use Prim.Native.Nat.{ℕ, _*_}
 use mathlib.Core.List.{List, [], map}
 use mathlib.Core.Bool.{Bool, true, false, cond, not, _&&_}
 use lib.ListN.{length, getD, set, replicate}
 use lib.Dec.{leb, ltb, eqb}
 use Rattle.model.specs.Lists.{below, keep, count, foldLeft, times, ascending}
-use Rattle.model.specs.Track.{Track, headingOf, start, leave}
-use Rattle.model.specs.Position.{Position, at, carrierOf, isFree, outs}
+use Rattle.model.specs.Track.{Track, start, leave}
+use Rattle.model.specs.Position.{Position, at, carrierOf, isFree, outs, standing}
 use Rattle.model.specs.Labels.{label, join, joinZones, parts}
 use Rattle.model.specs.Reading.{refusal, trackSaid, positionSaid}
 
 module _ (t : Track) (p : Position) where
-  -- the word of what stands in a held zone
-  abbrev pub standing : ℕ → ℕ
-  standing z = 2 * z + headingOf (at p z)
-
   -- the free parts, as labels of points
   unfoldable pub freeParts : List ℕ
   freeParts = parts t (isFree p)
@@ -27,7 +23,7 @@ module _ (t : Track) (p : Position) where
 
   -- a held zone whose carrier heads into a part with a loop, by these labels
   unfoldable pub turns : List ℕ → ℕ → Bool
-  turns ls z = not (isFree p z) && loopIn ls (label ls (leave t (standing z)))
+  turns ls z = not (isFree p z) && loopIn ls (label ls (leave t (standing p z)))
 
   -- for each such carrier its two ends are joined, once, from the parts as first found
   unfoldable pub joined : List ℕ
@@ -41,11 +37,11 @@ pub record Merging : Type 0 where
 module _ (t : Track) (p : Position) where
   -- a held zone leading into home's part
   abbrev pub leadsHome : List ℕ → ℕ → Bool
-  leadsHome ls z = not (isFree p z) && eqb (label ls (leave t (standing t p z))) (label ls (t .home))
+  leadsHome ls z = not (isFree p z) && eqb (label ls (leave t (standing p z))) (label ls (t .home))
 
   abbrev pub mergeIf : Bool → Merging → ℕ → Merging
   mergeIf false m z = m
-  mergeIf true m z = record { labels = join (m .labels) (start t (standing t p z)) (t .home); merged = set (m .merged) z true }
+  mergeIf true m z = record { labels = join (m .labels) (start t (standing p z)) (t .home); merged = set (m .merged) z true }
 
   -- such a zone is merged: the part at its other end becomes one with home's
   unfoldable pub mergeZone : Merging → ℕ → Merging

@@ -6,18 +6,19 @@ use mathlib.Core.Option.{Option, none, some}
 use lib.ListN.{length}
 use lib.Dec.{ltb, eqb}
 use Rattle.model.specs.Lists.{below, keep, first}
-use Rattle.model.specs.Track.{Track, zoneOf, headingOf, start, leave}
-use Rattle.model.specs.Position.{Position, at, carrierOf, retire, outs}
+use Rattle.model.specs.Track.{Track, zoneOf, start, leave}
+use Rattle.model.specs.Position.{Position, at, carrierOf, retire, outs, standing}
 use Rattle.model.specs.Reading.{refusal, trackSaid, positionSaid}
 use Rattle.rules.specs.Routes.{Entry}
 use Rattle.rules.specs.Search.{leastFrom}
 
+-- word v is in another zone than word w, one that is free to carrier c: nobody holds it, or c itself does
+abbrev pub mayFollow : Position → ℕ → ℕ → ℕ → Bool
+mayFollow p c w v = not (eqb (zoneOf v) (zoneOf w)) && (eqb (at p (zoneOf v)) 0 || eqb (carrierOf (at p (zoneOf v))) c)
+
 -- the step rule, tested: carrier c from word w to word v
 abbrev pub steps : Track → Position → ℕ → ℕ → ℕ → Bool
-steps t p c w v =
-    eqb (start t v) (leave t w) &&
-    (not (eqb (zoneOf v) (zoneOf w)) &&
-    (eqb (at p (zoneOf v)) 0 || eqb (carrierOf (at p (zoneOf v))) c))
+steps t p c w v = eqb (start t v) (leave t w) && mayFollow p c w v
 
 -- the words that may follow w, ascending
 unfoldable pub nexts : Track → Position → ℕ → ℕ → List ℕ
@@ -33,7 +34,7 @@ zoneFor p c = first (λ z. eqb (carrierOf (at p z)) c) (below (length p))
 
 abbrev pub routeFrom : Track → Position → ℕ → Option ℕ → Option (List ℕ)
 routeFrom t p c none = none
-routeFrom t p c (some z) = leastFrom (nexts t p c) (leavesHome t) (2 * t .zones) (2 * z + headingOf (at p z))
+routeFrom t p c (some z) = leastFrom (nexts t p c) (leavesHome t) (2 * t .zones) (standing p z)
 
 -- the least route of carrier c, which has at most 2 × Z words
 unfoldable pub leastRoute : Track → Position → ℕ → Option (List ℕ)

@@ -1,8 +1,9 @@
-// Words read against the track's ends: the point where a word leaves.
+// Words in code: the point where one leaves, and whether one may follow another.
 ghost use mathlib.Core.Path.{_≡_};
-ghost use Prim.Native.Nat.{_<_};
+ghost use Prim.Native.Nat.{_/_, _<_};
 ghost use lib.ListN.{length, getD};
 ghost use Rattle.model.specs.Track.{rev};
+ghost use Rattle.rules.specs.Key.{mayFollow};
 
 // The same zone, the other way.
 fn reverse(w: usize) -> usize
@@ -17,4 +18,19 @@ pub fn leaving(ends: &[usize], w: usize) -> usize
     ensures { λ r. ⌜ r ≡ getD (now (ends .entry)) (rev w) 0 ⌝ }
 {
     ends[reverse(w)]
+}
+
+// Whether word v is in another zone than word w, and that zone is free to the carrier: nobody holds it, or the carrier itself does.
+pub fn may_follow(position: &[u32], carrier: u32, w: usize, v: usize) -> bool
+    requires { ⌜ v / 2 < length (now position) ⌝ }
+    ensures { λ r. ⌜ r ≡ mayFollow (now (position .entry)) carrier w v ⌝ }
+{
+    if v / 2 == w / 2 {
+        return false;
+    }
+    let held = position[v / 2];
+    if held == 0 {
+        return true;
+    }
+    held / 2 == carrier
 }

@@ -4,7 +4,7 @@ use Prim.Native.Nat.{_-_, _*_, _≤_, _<_}
 use mathlib.Core.Path.{_≡_, sym, _∙_, ap}
 use native.Mathlib.Omega.{arith}
 use lib.ListN.{length, length-set}
-use Rattle.board.specs.Inner.{endSaid}
+use Rattle.model.specs.Reading.{endSaid}
 use Rattle.board.proofs.Filling.{few-zones, filled, heldSaid, ends-size, position-size, ends-next, ends-last, position-next, position-last}
 use Rattle.board.proofs.fill.arrays.Statement.{statement}
 use Rattle.board.proofs.fill.arrays.Tie as tie

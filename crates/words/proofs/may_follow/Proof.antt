@@ -2,8 +2,8 @@
 -- On each way through the code the tests of the definition are replaced by what was found.
 use borrow.Author.Needs.{needs}
 use borrow.Author.Tests.{eq-eqb, ne-eqb}
-use Rattle.queue.proofs.offers.may_follow.Statement.{statement}
-use Rattle.queue.proofs.offers.may_follow.Tie as tie
+use Rattle.words.proofs.may_follow.Statement.{statement}
+use Rattle.words.proofs.may_follow.Tie as tie
 
 returns : tie.Need-returns
 returns c = simp (eq-eqb _ _ (c .if1 .taken))

@@ -55,7 +55,3 @@ added-new ways p q l =
 pub reach-inside : {ways : List ℕ} {p q : ℕ} → Ways ways → p < length ways → Reach ways p q → q < length ways
 reach-inside w l here = l
 reach-inside w l (on {q = m} {r = r} k e) = w .inside m r e
-
-pub reach-on : {ways : List ℕ} {p q r : ℕ} → Reach ways p q → Reach ways q r → Reach ways p r
-reach-on k here = k
-reach-on k (on j e) = on (reach-on k j) e

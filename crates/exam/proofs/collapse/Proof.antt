@@ -1,5 +1,5 @@
 -- `collapse` keeps its promise: a refused board is turned back, and on any other the inner collapse answers on what was read.
--- From the contracts of `read_into` and `padded::collapse`: what was read is ready, and each return is a law of CollapsePromised.
+-- From the contracts of `read_into` and `parsed::collapse`: what was read is ready, and each return is a law of CollapsePromised.
 use mathlib.Core.Path.{sym}
 use native.Mathlib.Omega.{arith}
 use lib.Seq.{length-take-le}

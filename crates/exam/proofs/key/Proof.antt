@@ -1,5 +1,5 @@
 -- `key` keeps its promise: a refused board is turned back, and on any other the inner key answers on what was read.
--- From the contracts of `read_into` and `padded::key`: what was read is ready, and each return is a law of KeyPromised.
+-- From the contracts of `read_into` and `parsed::key`: what was read is ready, and each return is a law of KeyPromised.
 use mathlib.Core.Path.{sym}
 use native.Mathlib.Omega.{arith}
 use lib.Seq.{length-take-le}

@@ -1,5 +1,5 @@
 -- `mark` keeps its promise: a refused board gives its number, and on any other the inner marker answers on what was read.
--- From the contracts of `read_into` and `padded::mark`: what was read is ready, and each return is a law of MarkPromised.
+-- From the contracts of `read_into` and `parsed::mark`: what was read is ready, and each return is a law of MarkPromised.
 use mathlib.Core.Path.{sym}
 use native.Mathlib.Omega.{arith}
 use lib.Seq.{length-take-le}

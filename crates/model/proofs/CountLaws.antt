@@ -3,11 +3,12 @@
 use Prim.Native.Nat.{ℕ, zero, suc, _+_, _≤_, _<_}
 use mathlib.Core.Path.{_≡_, refl, _∙_, ap, subst}
 use mathlib.Core.Logic.{_⊎_, inl, inr}
-use mathlib.Core.List.{[], _∷_}
-use mathlib.Core.Bool.{Bool, true, false}
+use mathlib.Core.List.{List, [], _∷_}
+use mathlib.Core.Bool.{Bool, true, false, _&&_, _||_, true≢false}
 use native.Mathlib.Nat.{eq-or-lt-of-le}
 use native.Mathlib.Omega.{arith}
-use Rattle.model.specs.Lists.{below, count}
+use lib.ListN.{length}
+use Rattle.model.specs.Lists.{below, consIf, keep, count}
 use Rattle.model.proofs.ListLaws.{below-suc, count-append, count-ext, count-length, count-pass, count-skip, length-below, mem-below}
 
 -- counts over the numbers below n
@@ -47,3 +48,15 @@ count-one-more f g (suc n) k h p q s = last (eq-or-lt-of-le h) (λ i. count-one-
         let c : count f (below n) ≡ count g (below n) = count-below-ext f g n (λ x l. s x (omega arith) (λ r. omega arith)) in
         omega arith
     last (inr l) ih = inner (omega arith) (g n) refl (ih (omega arith))
+
+-- of two tests that never both pass, as many pass one of them as pass the first and the second
+pub count-either : (f g : ℕ → Bool) (l : List ℕ) → ((x : ℕ) → (f x && g x) ≡ false) → count (λ x. f x || g x) l ≡ count f l + count g l
+count-either f g [] d = refl
+count-either f g (a ∷ l) d = go (f a) (g a) (d a) (count-either f g l d)
+  where
+    go : (s t : Bool) → (s && t) ≡ false → count (λ x. f x || g x) l ≡ count f l + count g l
+        → length (consIf (s || t) a (keep (λ x. f x || g x) l)) ≡ length (consIf s a (keep f l)) + length (consIf t a (keep g l))
+    go true true e ih = absurd (true≢false e)
+    go true false e ih = omega arith
+    go false true e ih = omega arith
+    go false false e ih = ih

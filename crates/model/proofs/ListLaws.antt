@@ -55,6 +55,17 @@ pub countUp-suc : (k n : ℕ) → countUp k (suc n) ≡ countUp k n ++ ((k + n) 
 countUp-suc k zero = ap (λ (x : ℕ). x ∷ []) (omega arith)
 countUp-suc k (suc n) = ap (λ (l : List ℕ). k ∷ l) (countUp-suc (suc k) n ∙ ap (λ (x : ℕ). countUp (suc k) n ++ (x ∷ [])) (omega arith))
 
+-- a row of numbers in two parts
+pub countUp-append : (k m n : ℕ) → countUp k (m + n) ≡ countUp k m ++ countUp (k + m) n
+countUp-append k zero n =
+    let none : 0 + n ≡ n = omega arith in
+    let same : k ≡ k + 0 = omega arith in
+    ap (countUp k) none ∙ ap (λ (x : ℕ). countUp x n) same
+countUp-append k (suc m) n =
+    let one : suc m + n ≡ suc (m + n) = omega arith in
+    let shift : suc k + m ≡ k + suc m = omega arith in
+    ap (countUp k) one ∙ ap (λ (l : List ℕ). k ∷ l) (countUp-append (suc k) m n ∙ ap (λ (x : ℕ). countUp (suc k) m ++ countUp x n) shift)
+
 pub below-suc : (n : ℕ) → below (suc n) ≡ below n ++ (n ∷ [])
 below-suc n = countUp-suc 0 n ∙ ap (λ (x : ℕ). below n ++ (x ∷ [])) (omega arith)
 

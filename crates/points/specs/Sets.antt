@@ -22,6 +22,10 @@ pub record Lowest (s p : ℕ) : Type 0 where
   pub there : hasBit s p ≡ true
   pub least : (q : ℕ) → q < p → hasBit s q ≡ false
 
+-- the set without its lowest point
+pub record ButLowest (s r : ℕ) : Type 0 where
+  pub rest : (p : ℕ) → Lowest s p → r ≡ less s (2 ^ p)
+
 -- ways among at most 64 points: bit r of the q-th word says that a way leads from q to r, and none leads out
 pub record Ways (ways : List ℕ) : Type 0 where
   pub few : length ways ≤ 64

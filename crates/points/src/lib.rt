@@ -4,7 +4,7 @@ ghost use Prim.Native.Nat.{_-_, _^_, _≤_, _<_};
 ghost use lib.ListN.{length, getD, set};
 ghost use lib.Bits.{bitOr};
 ghost use Rattle.model.specs.Lists.{below, count};
-ghost use Rattle.points.specs.Sets.{hasBit, less, Lowest, Ways, Grown};
+ghost use Rattle.points.specs.Sets.{hasBit, less, Lowest, ButLowest, Ways, Grown};
 
 // Whether point p is in s.
 pub fn has(s: u64, p: usize) -> bool
@@ -52,6 +52,14 @@ pub fn lowest(s: u64) -> usize
     u64::trailing_zeros(s) as usize
 }
 
+// s without its lowest point.
+pub fn but_lowest(s: u64) -> u64
+    requires { ⌜ 0 < s ⌝ }
+    ensures { λ r. ⌜ ButLowest s r ⌝ }
+{
+    s & (s - 1)
+}
+
 // One way more, from p to q.
 pub fn add_way(ways: &mut [u64], p: usize, q: usize)
     requires { ⌜ (p < length (now ways)) × (q < 64) ⌝ }
@@ -71,7 +79,7 @@ pub fn grow(ways: &[u64], from: usize) -> u64
         let p = lowest(fresh);
         let new = without(ways[p], found);
         found = found | new;
-        fresh = without(fresh, with(0, p)) | new;
+        fresh = but_lowest(fresh) | new;
     }
     found
 }

@@ -1,4 +1,9 @@
-pub mod Chains
+pub mod WordSetLaws
+pub mod FollowLaws
+pub mod Filling
+pub mod BlockLaws
+pub mod OfferBlocks
+pub mod Appending
+pub mod QueueArrays
 pub mod OfferLaws
 pub mod Routing
-pub mod QueueArrays

@@ -1,213 +1,199 @@
--- Laws of the offering of next words: one word more in the arrays is one more in the queue, and the rest of the offering stays the same.
--- The words to come are those of the chain that may follow; what is left of it decides the queue at the end.
-use Prim.Native.Nat.{ℕ, suc, _+_, _*_, _≤_, _<_}
+-- An offering of the words that come after a word and are unseen is the offering of the next words of the step rule, and the arrays are a queue again.
+-- What comes after on the track, may be entered and is not in the queue is what the table and the set have in common.
+use Prim.Native.Nat.{ℕ, _+_, _-_, _*_, _≤_, _<_}
 use mathlib.Core.Path.{_≡_, refl, sym, _∙_, ap, ap₂}
-use mathlib.Core.List.{List, [], _∷_, _++_}
-use mathlib.Core.Bool.{Bool, true, false, _||_, or-true, or-false}
+use mathlib.Core.List.{List, _++_, map, append-nil, append-assoc, List·Memᴰ}
+use mathlib.Core.Bool.{Bool, true, false, not, _&&_, _||_, and-false}
 use native.Mathlib.Omega.{arith}
-use native.Mathlib.Numerals.{add-one}
-use lib.ListN.{length, getD, take, set, length-set}
-use lib.Seq.{getD-set-same, getD-set-other, take-suc-set}
-use lib.Dec.{eqb}
-use borrow.Author.Tests.{eqb-true, eqb-false, eq-eqb}
-use Rattle.model.specs.Lists.{below, consIf, keep, any, count}
-use Rattle.model.specs.Track.{rev}
-use Rattle.model.proofs.ListLaws.{keep-keep, any-append}
-use Rattle.model.proofs.CountLaws.{count-one-more, count-below}
-use Rattle.rules.specs.Key.{mayFollow, nexts}
-use Rattle.least.specs.Queue.{Queue, inQueue, offerIf, offer, offerAll}
-use Rattle.queue.specs.Words.{Chain, stop, link}
-use Rattle.queue.specs.Searching.{zonesOnly, queueIn, Queued, Offering, Offered}
-use Rattle.queue.proofs.Chains.{chain-low}
+use lib.ListN.{length, getD, take, drop, length-append, length-map, List·getD-append}
+use lib.Seq.{getD-take, length-take-le, take-at, getD-append-add}
+use lib.Dec.{eqb, ltb}
+use borrow.Author.Tests.{eqb-true, eq-eqb, ltb-true, ltb-false, lt-ltb, le-ltb}
+use Rattle.model.specs.Lists.{countUp, below, keep, any, count, overwrittenAt}
+use Rattle.model.specs.Track.{zoneOf, rev}
+use Rattle.model.proofs.BoolLaws.{same-test}
+use Rattle.model.proofs.ListLaws.{mem-below, below-mem, mem-countUp, countUp-append, mem-keep, keep-mem, keep-append, keep-ext, keep-none, any-true, true-any, any-append}
+use Rattle.model.proofs.CountLaws.{count-below, count-below-ext, count-either}
+use Rattle.model.proofs.PlaceLaws.{getD-mem, getD-map}
+use Rattle.rules.specs.Key.{mayEnter, steps, nexts}
+use Rattle.least.specs.Queue.{offerAll}
+use Rattle.queue.specs.WordSets.{hasWord}
+use Rattle.queue.specs.Follows.{inRow, comesAfter}
+use Rattle.queue.specs.Offers.{Room, unseenAfter, Offered}
+use Rattle.queue.specs.Searching.{zonesOnly, Tables, queueIn, Queued}
+use Rattle.queue.proofs.Appending.{offer-row}
+use Rattle.queue.proofs.QueueArrays.{queued-most}
 
--- a word that was not seen, put at the end of the queue
+-- words stored at place n of an array: what is before them, and they themselves
 
-module _ {m : ℕ} {words froms seen : List ℕ} {n : ℕ} (q : Queued m words froms seen n) (v i : ℕ) (small : v < m) (unseen : eqb (getD seen v 0) 1 ≡ false) (earlier : 0 < n → i < n) where
-  abbrev seen′ : List ℕ
-  seen′ = set seen v 1
+module _ (vs l l′ : List ℕ) (n : ℕ) (room : n ≤ length l) (stored : take (n + length vs) l′ ≡ take n l ++ vs) where
+  stored-before : (j : ℕ) → j < n → getD l′ j 0 ≡ getD l j 0
+  stored-before j h =
+      sym (getD-take (n + length vs) l′ j 0 (omega arith)) ∙
+      ap (λ (x : List ℕ). getD x j 0) stored ∙
+      List·getD-append (take n l) vs 0 j (rw (length-take-le n l room) h) ∙
+      getD-take n l j 0 h
 
-  marked : getD seen′ v 0 ≡ 1
-  marked = getD-set-same seen v 1 0 (omega (arith, q .room-seen))
+  stored-there : (j : ℕ) → j < length vs → getD l′ (n + j) 0 ≡ getD vs j 0
+  stored-there j h =
+      sym (getD-take (n + length vs) l′ (n + j) 0 (omega arith)) ∙
+      ap₂ (λ (x : List ℕ) (k : ℕ). getD x (k + j) 0) stored (sym (length-take-le n l room)) ∙
+      getD-append-add (take n l) vs j 0
 
-  counted : count (λ u. eqb (getD seen′ u 0) 1) (below m) ≡ n + 1
-  counted =
-      count-one-more (λ u. eqb (getD seen′ u 0) 1) (λ u. eqb (getD seen u 0) 1) m v small (eq-eqb _ _ marked) unseen (λ j h d. ap (λ (x : ℕ). eqb x 1) (getD-set-other seen v j 1 0 d)) ∙
-      ap (λ (k : ℕ). k + 1) (q .counted)
+-- the array up to the end of what is stored
+taken : (vs l l′ : List ℕ) (n : ℕ) → n ≤ length l → l′ ≡ overwrittenAt n vs l → take (n + length vs) l′ ≡ take n l ++ vs
+taken vs l l′ n room e =
+    ap (take (n + length vs)) (e ∙ sym (append-assoc (take n l) vs (drop (n + length vs) l))) ∙
+    take-at (take n l ++ vs) (drop (n + length vs) l) (n + length vs) (length-append (take n l) vs ∙ ap (λ (k : ℕ). k + length vs) (length-take-le n l room))
 
-  -- so there is room for it
-  pub room-for : n < m
-  room-for = omega (arith, counted, count-below (λ u. eqb (getD seen′ u 0) 1) m)
+-- tests in another grouping
+both-pairs : (a b c d : Bool) → ((a && (b && c)) && d) ≡ ((a && b) && (c && d))
+both-pairs true true c d = refl
+both-pairs true false c d = refl
+both-pairs false b c d = refl
 
-  more-words : take (n + 1) (set words n v) ≡ take n words ++ (v ∷ [])
-  more-words = rw add-one (take-suc-set words n v (omega (arith, room-for, q .room-words)))
+-- what passes a test and is not seen is not seen
+never-both : (a b : Bool) → (a && (b && not a)) ≡ false
+never-both true b = and-false b
+never-both false b = refl
 
-  more-froms : take (n + 1) (set froms n i) ≡ take n froms ++ (i ∷ [])
-  more-froms = rw add-one (take-suc-set froms n i (omega (arith, room-for, q .room-froms)))
+-- what is unseen after a part of it is seen
+less-seen : (e a r : Bool) → ((e && not a) && not r) ≡ (e && not (a || (r && (e && not a))))
+less-seen true true r = refl
+less-seen true false true = refl
+less-seen true false false = refl
+less-seen false a r = refl
 
-  marks : (u : ℕ) → u < m → eqb (getD seen′ u 0) 1 ≡ any (eqb u) (take (n + 1) (set words n v))
-  marks u h = go (eqb u v) refl ∙ sym (ap (any (eqb u)) more-words ∙ any-append (eqb u) (take n words) (v ∷ []))
+module _ {zones : ℕ} {ends p follows : List ℕ} (t : Tables zones ends p follows) {c last : ℕ} (small : last < 2 * zones)
+    {words froms unseen : List ℕ} {found : ℕ} (q : Queued (2 * zones) p c words froms unseen found) where
+  abbrev m : ℕ
+  m = 2 * zones
+
+  -- in the queue
+  abbrev seen : ℕ → Bool
+  seen v = any (eqb v) (take found words)
+
+  abbrev after : ℕ → Bool
+  after v = inRow follows last v && hasWord unseen v
+
+  -- a next word that is not in the queue
+  abbrev new : ℕ → Bool
+  new v = steps (zonesOnly zones ends) p c last v && not (seen v)
+
+  abbrev next : List ℕ
+  next = unseenAfter follows last unseen
+
+  row-at : (v : ℕ) → v < 192 → {b : Bool} → ltb v m ≡ b → inRow follows last v ≡ (b && comesAfter ends last v)
+  row-at v h e = t .filled .row last v small h ∙ ap (λ (b : Bool). b && comesAfter ends last v) e
+
+  new-after : (v : ℕ) → v < m → new v ≡ after v
+  new-after v h =
+      both-pairs (eqb (getD ends v 0) (getD ends (rev last) 0)) (not (eqb (zoneOf v) (zoneOf last))) (mayEnter p c v) (not (seen v)) ∙
+      sym (ap₂ (λ (a b : Bool). a && b) (row-at v (omega (arith, t .few)) (lt-ltb v m h)) (q .marks v h))
+
+  next-is : keep new (below m) ≡ next
+  next-is =
+      keep-ext new after (below m) (λ v l. new-after v (mem-below m l)) ∙
+      sym (ap (keep after) whole ∙ keep-append after (below m) (countUp (0 + m) (192 - m)) ∙ ap (λ (l : List ℕ). keep after (below m) ++ l) (keep-none after (countUp (0 + m) (192 - m)) beyond) ∙ append-nil (keep after (below m)))
     where
-      go : (t : Bool) → eqb u v ≡ t → eqb (getD seen′ u 0) 1 ≡ (any (eqb u) (take n words) || (eqb u v || false))
-      go true e =
-          eq-eqb _ _ (ap (λ (x : ℕ). getD seen′ x 0) (eqb-true u v e) ∙ marked) ∙
-          sym (ap (λ (t : Bool). any (eqb u) (take n words) || (t || false)) e ∙ or-true (any (eqb u) (take n words)))
-      go false e =
-          ap (λ (x : ℕ). eqb x 1) (getD-set-other seen v u 1 0 (eqb-false u v e)) ∙
-          q .marks u h ∙
-          sym (ap (λ (t : Bool). any (eqb u) (take n words) || (t || false)) e ∙ or-false (any (eqb u) (take n words)))
+      whole : below 192 ≡ below m ++ countUp (0 + m) (192 - m)
+      whole =
+          let sum : 192 ≡ m + (192 - m) = omega (arith, t .few) in
+          ap below sum ∙ countUp-append 0 m (192 - m)
 
-  pub queued-more : Queued m (set words n v) (set froms n i) seen′ (n + 1)
-  queued-more = record {
-    room-words = rw length-set (q .room-words);
-    room-froms = rw length-set (q .room-froms);
-    room-seen = rw length-set (q .room-seen);
-    inside = λ j h. inside j h (eqb j n) refl;
-    falls = λ j p h. falls j p h (eqb j n) refl;
-    marks = marks;
-    counted = counted;
-  }
+      beyond : (v : ℕ) → List·Memᴰ v (countUp (0 + m) (192 - m)) → after v ≡ false
+      beyond v l =
+          let r = mem-countUp (0 + m) (192 - m) l in
+          ap (λ (b : Bool). b && hasWord unseen v) (row-at v (omega (arith, r, t .few)) (le-ltb v m (omega (arith, r))))
+
+  any-next : (v : ℕ) → v < m → any (eqb v) next ≡ new v
+  any-next v h = same-test (any (eqb v) next) (after v) there back ∙ sym (new-after v h)
     where
-      inside : (j : ℕ) → j < n + 1 → (t : Bool) → eqb j n ≡ t → getD (set words n v) j 0 < m
-      inside j h true e = rw (eqb-true j n e, getD-set-same words n v 0 (omega (arith, room-for, q .room-words))) small
-      inside j h false e = let d : j ≡ n → ⊥ = eqb-false j n e in rw (getD-set-other words n j v 0 d) (q .inside j (omega arith))
+      there : any (eqb v) next ≡ true → after v ≡ true
+      there e =
+          let x = any-true (eqb v) next e in
+          ap after (eqb-true v (x .0) (x .2)) ∙ mem-keep after (below 192) (x .1) .1
 
-      falls : (j : ℕ) → 0 < j → j < n + 1 → (t : Bool) → eqb j n ≡ t → getD (set froms n i) j 0 < j
-      falls j p h true e = rw (eqb-true j n e, getD-set-same froms n i 0 (omega (arith, room-for, q .room-froms))) (earlier (omega (arith, eqb-true j n e)))
-      falls j p h false e = let d : j ≡ n → ⊥ = eqb-false j n e in rw (getD-set-other froms n j i 0 d) (q .falls j p (omega arith))
+      back : after v ≡ true → any (eqb v) next ≡ true
+      back e = true-any (eqb v) (keep-mem after (below-mem 192 v (omega (arith, t .few))) e) (eq-eqb v v refl)
 
-  pub queue-more : queueIn (set words n v) (set froms n i) (n + 1) ≡ offer i (queueIn words froms n) v
-  unfolding offer
-  queue-more =
-      ap₂ (λ (a b : List ℕ). record { words = a; froms = b }) more-words more-froms ∙
-      ap (λ (t : Bool). offerIf t i (queueIn words froms n) v) (sym unseen ∙ q .marks v small)
+  counts : count (λ v. seen v || new v) (below m) ≡ found + length next
+  counts =
+      count-either seen new (below m) (λ v. never-both (seen v) (steps (zonesOnly zones ends) p c last v)) ∙
+      ap₂ (λ (a b : ℕ). a + b) (q .counted) (ap length next-is)
 
--- one word of the chain
+  most : found + length next ≤ m
+  most = omega (arith, counts, count-below (λ v. seen v || new v) m)
 
-module _ (g : ℕ → Bool) (i : ℕ) (q : Queue) (w : ℕ) (l : List ℕ) where
-  offer-skip : g w ≡ false → offerAll i q (keep g (w ∷ l)) ≡ offerAll i q (keep g l)
-  offer-skip e = ap (λ (t : Bool). offerAll i q (consIf t w (keep g l))) e
+  pub offered-room : Room next found words froms
+  offered-room = record { in-words = omega (arith, most, q .room-words); in-froms = omega (arith, most, q .room-froms) }
 
-  offer-one : g w ≡ true → offerAll i q (keep g (w ∷ l)) ≡ offerAll i (offer i q w) (keep g l)
-  unfolding offerAll
-  offer-one e = ap (λ (t : Bool). offerAll i q (consIf t w (keep g l))) e
+  module _ {i : ℕ} (earlier : i < found) {words′ froms′ unseen′ : List ℕ} {r : ℕ} (o : Offered follows last i found words froms unseen words′ froms′ unseen′ r) where
+    pub offered-later : i < r
+    offered-later = omega (arith, earlier, o .stored .longer)
 
-  offer-known : g w ≡ true → inQueue q w ≡ true → offerAll i q (keep g (w ∷ l)) ≡ offerAll i q (keep g l)
-  unfolding offer
-  offer-known e k = offer-one e ∙ ap (λ (t : Bool). offerAll i (offerIf t i q w) (keep g l)) k
+    words-taken : take (found + length next) words′ ≡ take found words ++ next
+    words-taken = taken next words words′ found (omega (arith, queued-most q, q .room-words)) (o .stored .words-stored)
 
-chain-step : {after : List ℕ} {n k v : ℕ} {vs : List ℕ} → Chain after n k v vs → v < n → (us : List ℕ) × (vs ≡ v ∷ us) × Chain after n (suc v) (getD after v 0) us
-chain-step (stop {v = v} h e) l = absurd (omega arith)
-chain-step (link {vs = us} h e r) l = (us, refl, r)
+    froms-taken : take (found + length (map (λ v. i) next)) froms′ ≡ take found froms ++ map (λ v. i) next
+    froms-taken = taken (map (λ v. i) next) froms froms′ found (omega (arith, queued-most q, q .room-froms)) (o .stored .froms-stored)
 
-chain-stop : {after : List ℕ} {n k v : ℕ} {vs : List ℕ} → Chain after n k v vs → n ≤ v → vs ≡ []
-chain-stop (stop h e) l = refl
-chain-stop (link {v = v} h e r) l = absurd (omega arith)
+    to-end : found + length (map (λ v. i) next) ≡ r
+    to-end = ap (λ (k : ℕ). found + k) (length-map next (λ v. i)) ∙ sym (o .stored .longer)
 
--- the offering, with the words of the chain from `next` on to come
-pub record Going (zones : ℕ) (ends p after : List ℕ) (c last i : ℕ) (words₀ froms₀ seen₀ : List ℕ) (found : ℕ) (words froms seen : List ℕ) (n next : ℕ) : Type 0 where
-  pub queued : Queued (2 * zones) words froms seen n
-  pub earlier : i < n
-  pub same-words : length words ≡ length words₀
-  pub same-froms : length froms ≡ length froms₀
-  pub same-seen : length seen ≡ length seen₀
-  pub room : 2 * zones ≤ length after
-  pub each : length p ≡ zones
-  pub low : ℕ
-  pub left : List ℕ
-  pub chain : Chain after (2 * zones) low next left
-  pub rest : offerAll i (queueIn words froms n) (keep (mayFollow p c last) left) ≡ offerAll i (queueIn words₀ froms₀ found) (nexts (zonesOnly zones ends) p c last)
+    pub offered-queue : queueIn words′ froms′ r ≡ offerAll i (queueIn words froms found) (nexts (zonesOnly zones ends) p c last)
+    unfolding nexts
+    offered-queue =
+        ap₂ (λ (a b : List ℕ). record { words = a; froms = b }) (ap (λ (k : ℕ). take k words′) (o .stored .longer) ∙ words-taken) (ap (λ (k : ℕ). take k froms′) (sym to-end) ∙ froms-taken) ∙
+        ap (λ (l : List ℕ). record { words = take found words ++ l; froms = take found froms ++ map (λ v. i) l }) (sym next-is) ∙
+        sym (offer-row (steps (zonesOnly zones ends) p c last) i 0 m (queueIn words froms found))
 
-module _ {zones : ℕ} {ends p first after : List ℕ} {last i : ℕ} {words froms seen : List ℕ} {found : ℕ} (o : Offering zones ends p first after last i words froms seen found) where
-  pub rev-inside : rev last < length ends
-  rev-inside = omega (arith, o .word, o .tables .both)
-
-  pub point-inside : {point : ℕ} → point ≡ getD ends (rev last) 0 → point < length first
-  point-inside e = rw e (o .tables .inside (rev last) (omega (arith, o .word)))
-
-  starts-at : (c : ℕ) → Going zones ends p after c last i words froms seen found words froms seen found (getD first (getD ends (rev last) 0) 0)
-  unfolding nexts
-  starts-at c = record {
-    queued = o .queued;
-    earlier = o .earlier;
-    same-words = refl;
-    same-froms = refl;
-    same-seen = refl;
-    room = o .tables .room;
-    each = o .tables .each;
-    low = 0;
-    left = keep (λ v. eqb (getD ends v 0) (getD ends (rev last) 0)) (below (2 * zones));
-    chain = o .tables .linked .chain (getD ends (rev last) 0) (point-inside refl);
-    rest = ap (offerAll i (queueIn words froms found)) (keep-keep (mayFollow p c last) (λ v. eqb (getD ends v 0) (getD ends (rev last) 0)) (below (2 * zones)));
-  }
-
-  pub going-starts : (c : ℕ) {point : ℕ} → point ≡ getD ends (rev last) 0 → Going zones ends p after c last i words froms seen found words froms seen found (getD first point 0)
-  going-starts c e = rw e (starts-at c)
-
-module _ {zones : ℕ} {ends p after : List ℕ} {c last i : ℕ} {words₀ froms₀ seen₀ : List ℕ} {found : ℕ} {words froms seen : List ℕ} {n next : ℕ}
-    (g : Going zones ends p after c last i words₀ froms₀ seen₀ found words froms seen n next) where
-  pub going-done : 2 * zones ≤ next → Offered zones ends p c last i words₀ froms₀ found words froms seen n
-  unfolding offerAll
-  going-done h = record {
-    queued = g .queued;
-    later = g .earlier;
-    queue = ap (λ (l : List ℕ). offerAll i (queueIn words froms n) (keep (mayFollow p c last) l)) (sym (chain-stop (g .chain) h)) ∙ g .rest;
-  }
-
-  module _ (h : next < 2 * zones) where
-    pub next-later : next < getD after next 0
-    next-later = chain-low (chain-step (g .chain) h .2)
-
-    us : List ℕ
-    us = chain-step (g .chain) h .0
-
-    rest-at : offerAll i (queueIn words froms n) (keep (mayFollow p c last) (next ∷ us)) ≡ offerAll i (queueIn words₀ froms₀ found) (nexts (zonesOnly zones ends) p c last)
-    unfolding us
-    rest-at = ap (λ (l : List ℕ). offerAll i (queueIn words froms n) (keep (mayFollow p c last) l)) (sym (chain-step (g .chain) h .1)) ∙ g .rest
-
-    -- the word is passed over, where the offer of it changes nothing
-    passes : offerAll i (queueIn words froms n) (keep (mayFollow p c last) (next ∷ us)) ≡ offerAll i (queueIn words froms n) (keep (mayFollow p c last) us)
-        → Going zones ends p after c last i words₀ froms₀ seen₀ found words froms seen n (getD after next 0)
-    unfolding us
-    passes e = record {
-      queued = g .queued;
-      earlier = g .earlier;
-      same-words = g .same-words;
-      same-froms = g .same-froms;
-      same-seen = g .same-seen;
-      room = g .room;
-      each = g .each;
-      low = suc next;
-      left = us;
-      chain = chain-step (g .chain) h .2;
-      rest = sym e ∙ rest-at;
+    pub offered-queued : length words′ ≡ length words → length froms′ ≡ length froms → length unseen′ ≡ length unseen → Queued m p c words′ froms′ unseen′ r
+    offered-queued a b d = record {
+      room-words = omega (arith, a, q .room-words);
+      room-froms = omega (arith, b, q .room-froms);
+      blocks = d ∙ q .blocks;
+      inside = λ j h. inside j h (ltb j found) refl;
+      falls = λ j l h. falls j l h (ltb j found) refl;
+      marks = marks;
+      counted = count-below-ext (λ v. any (eqb v) (take r words′)) (λ v. seen v || new v) m any-taken ∙ counts ∙ sym (o .stored .longer);
     }
+      where
+        any-taken : (v : ℕ) → v < m → any (eqb v) (take r words′) ≡ (seen v || new v)
+        any-taken v h =
+            ap (any (eqb v)) (ap (λ (k : ℕ). take k words′) (o .stored .longer) ∙ words-taken) ∙
+            any-append (eqb v) (take found words) next ∙
+            ap (λ (b : Bool). seen v || b) (any-next v h)
 
-    pub going-shut : mayFollow p c last next ≡ false → Going zones ends p after c last i words₀ froms₀ seen₀ found words froms seen n (getD after next 0)
-    going-shut e = passes (offer-skip (mayFollow p c last) i (queueIn words froms n) next us e)
+        marks : (v : ℕ) → v < m → hasWord unseen′ v ≡ (mayEnter p c v && not (any (eqb v) (take r words′)))
+        marks v h =
+            o .seen v (omega (arith, t .few)) ∙
+            ap (λ (b : Bool). b && not (inRow follows last v)) (q .marks v h) ∙
+            less-seen (mayEnter p c v) (seen v) (inRow follows last v) ∙
+            ap (λ (b : Bool). mayEnter p c v && not (seen v || b)) (ap (λ (b : Bool). inRow follows last v && b) (sym (q .marks v h)) ∙ sym (new-after v h)) ∙
+            ap (λ (b : Bool). mayEnter p c v && not b) (sym (any-taken v h))
 
-    pub going-room : eqb (getD seen next 0) 1 ≡ false → n < 2 * zones
-    going-room s = room-for (g .queued) next i h s (λ _. g .earlier)
+        inside : (j : ℕ) → j < r → (b : Bool) → ltb j found ≡ b → getD words′ j 0 < m
+        inside j h true e =
+            let l : j < found = ltb-true j found e in
+            rw (stored-before next words words′ found (omega (arith, queued-most q, q .room-words)) words-taken j l) (q .inside j l)
+        inside j h false e =
+            let l : found ≤ j = ltb-false j found e in
+            let sum : j ≡ found + (j - found) = omega arith in
+            let few : j - found < length next = omega (arith, o .stored .longer) in
+            let there : getD words′ j 0 ≡ getD next (j - found) 0 = ap (λ (k : ℕ). getD words′ k 0) sum ∙ stored-there next words words′ found (omega (arith, queued-most q, q .room-words)) words-taken (j - found) few in
+            rw there (mem-below m (mem-keep new (below m) (rw next-is (getD-mem 0 next (j - found) few)) .0))
 
-    module _ (e : mayFollow p c last next ≡ true) where
-      pub going-seen : eqb (getD seen next 0) 1 ≡ true → Going zones ends p after c last i words₀ froms₀ seen₀ found words froms seen n (getD after next 0)
-      going-seen s = passes (offer-known (mayFollow p c last) i (queueIn words froms n) next us e (sym (g .queued .marks next h) ∙ s))
-
-      pub going-new : eqb (getD seen next 0) 1 ≡ false
-          → Going zones ends p after c last i words₀ froms₀ seen₀ found (set words n next) (set froms n i) (set seen next 1) (n + 1) (getD after next 0)
-      unfolding us
-      going-new s = record {
-        queued = queued-more (g .queued) next i h s (λ _. g .earlier);
-        earlier = omega (arith, g .earlier);
-        same-words = length-set words n next ∙ g .same-words;
-        same-froms = length-set froms n i ∙ g .same-froms;
-        same-seen = length-set seen next 1 ∙ g .same-seen;
-        room = g .room;
-        each = g .each;
-        low = suc next;
-        left = us;
-        chain = chain-step (g .chain) h .2;
-        rest =
-            ap (λ (q : Queue). offerAll i q (keep (mayFollow p c last) us)) (queue-more (g .queued) next i h s (λ _. g .earlier)) ∙
-            sym (offer-one (mayFollow p c last) i (queueIn words froms n) next us e) ∙
-            rest-at;
-      }
+        falls : (j : ℕ) → 0 < j → j < r → (b : Bool) → ltb j found ≡ b → getD froms′ j 0 < j
+        falls j z h true e =
+            let l : j < found = ltb-true j found e in
+            rw (stored-before (map (λ v. i) next) froms froms′ found (omega (arith, queued-most q, q .room-froms)) froms-taken j l) (q .falls j z l)
+        falls j z h false e =
+            let l : found ≤ j = ltb-false j found e in
+            let sum : j ≡ found + (j - found) = omega arith in
+            let few : j - found < length next = omega (arith, o .stored .longer) in
+            let there : getD froms′ j 0 ≡ i =
+            ap (λ (k : ℕ). getD froms′ k 0) sum ∙
+            stored-there (map (λ v. i) next) froms froms′ found (omega (arith, queued-most q, q .room-froms)) froms-taken (j - found) (rw (length-map next (λ v. i)) few) ∙
+            getD-map (λ v. i) next 0 0 (j - found) few in
+            rw there (omega arith)

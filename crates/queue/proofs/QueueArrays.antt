@@ -1,23 +1,27 @@
--- The arrays of a search as its queue: how many words it has, the word at a place, the route to it, and the arrays before anything is found.
+-- The arrays of a search as its queue: how many words it has, the word at a place, the route to it, and the arrays with one word found.
 -- A route reads the arrays no further than the queue goes, since each place was found from an earlier one.
-use Prim.Native.Nat.{ℕ, zero, suc, _≤_, _<_}
-use mathlib.Core.Path.{_≡_, refl, _∙_, ap, ap₂}
+use Prim.Native.Nat.{ℕ, zero, suc, _+_, _≤_, _<_}
+use mathlib.Core.Path.{_≡_, refl, sym, _∙_, ap, ap₂}
 use mathlib.Core.List.{List, [], _∷_}
-use mathlib.Core.Bool.{false}
+use mathlib.Core.Bool.{Bool, false, not, _&&_, or-false}
 use native.Mathlib.Omega.{arith}
-use lib.ListN.{length, getD, take, replicate, length-replicate, getD-replicate}
-use lib.Seq.{getD-take, length-take-le}
+use lib.ListN.{length, getD, take, set, length-set}
+use lib.Seq.{getD-take, length-take-le, getD-set-same, take-suc-set}
 use lib.Dec.{eqb}
-use Rattle.model.specs.Lists.{below}
-use Rattle.model.proofs.ListLaws.{count-none, mem-below}
-use Rattle.model.proofs.CountLaws.{count-below}
+use borrow.Author.Tests.{eq-eqb, ne-eqb}
+use Rattle.model.specs.Lists.{below, any}
+use Rattle.model.proofs.ListLaws.{count-none}
+use Rattle.model.proofs.CountLaws.{count-below, count-one-more}
+use Rattle.model.specs.Position.{Position}
+use Rattle.rules.specs.Key.{mayEnter}
 use Rattle.least.specs.Queue.{pathOnto, pathTo}
+use Rattle.queue.specs.WordSets.{hasWord}
 use Rattle.queue.specs.Searching.{queueIn, Queued}
 use Rattle.queue.specs.Written.{routeTo, Readable}
 
-module _ {m : ℕ} {words froms seen : List ℕ} {n : ℕ} (q : Queued m words froms seen n) where
+module _ {m : ℕ} {p : Position} {c : ℕ} {words froms unseen : List ℕ} {n : ℕ} (q : Queued m p c words froms unseen n) where
   pub queued-most : n ≤ m
-  queued-most = omega (arith, q .counted, count-below (λ v. eqb (getD seen v 0) 1) m)
+  queued-most = omega (arith, q .counted, count-below (λ v. any (eqb v) (take n words)) m)
 
   pub queue-size : length (take n words) ≡ n
   queue-size = length-take-le n words (omega (arith, queued-most, q .room-words))
@@ -46,17 +50,20 @@ module _ {m : ℕ} {words froms seen : List ℕ} {n : ℕ} (q : Queued m words f
     small = λ j l. omega (arith, q .inside j (omega arith));
   }
 
--- nothing is seen and the queue is empty
-pub queued-none : (m : ℕ) (words froms : List ℕ) → m ≤ 192 → m ≤ length words → m ≤ length froms → Queued m words froms (replicate 192 0) 0
-queued-none m words froms s a b = record {
-  room-words = a;
-  room-froms = b;
-  room-seen = rw length-replicate s;
-  inside = λ j h. absurd (omega arith);
-  falls = λ j p h. absurd (omega arith);
-  marks = unseen;
-  counted = count-none (λ v. eqb (getD (replicate 192 0) v 0) 1) (below m) (λ v h. unseen v (mem-below m h));
+-- one word is in the queue
+pub queued-one : (m : ℕ) (p : Position) (c : ℕ) (words froms unseen : List ℕ) (w : ℕ) → m ≤ length words → m ≤ length froms → length unseen ≡ 3 → w < m
+    → ((v : ℕ) → v < m → hasWord unseen v ≡ (mayEnter p c v && not (eqb v w))) → Queued m p c (set words 0 w) (set froms 0 0) unseen 1
+queued-one m p c words froms unseen w a b d h marks = record {
+  room-words = rw length-set a;
+  room-froms = rw length-set b;
+  blocks = d;
+  inside = λ j l. let first : j ≡ 0 = omega arith in rw (first, getD-set-same words 0 w 0 (omega arith)) h;
+  falls = λ j z l. absurd (omega arith);
+  marks = λ v l. marks v l ∙ ap (λ (t : Bool). mayEnter p c v && not t) (sym (alone v));
+  counted =
+      count-one-more (λ v. any (eqb v) (take 1 (set words 0 w))) (λ v. false) m w h (alone w ∙ eq-eqb w w refl) refl (λ j l d. alone j ∙ ne-eqb j w d) ∙
+      ap (λ (k : ℕ). k + 1) (count-none (λ v. false) (below m) (λ v l. refl));
 }
   where
-    unseen : (v : ℕ) → v < m → eqb (getD (replicate 192 0) v 0) 1 ≡ false
-    unseen v h = ap (λ (x : ℕ). eqb x 1) (getD-replicate 192 v 0 0 (omega arith))
+    alone : (v : ℕ) → any (eqb v) (take 1 (set words 0 w)) ≡ eqb v w
+    alone v = ap (any (eqb v)) (take-suc-set words 0 w (omega arith)) ∙ or-false (eqb v w)

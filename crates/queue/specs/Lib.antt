@@ -1,3 +1,5 @@
-pub mod Words
+pub mod WordSets
+pub mod Follows
+pub mod Offers
 pub mod Searching
 pub mod Written

@@ -1,41 +1,52 @@
 // The queue of a breadth-first search: the words found, each with the place of the word it was found from.
-ghost use Rattle.queue.specs.Searching.{Offering, Offered};
+ghost use Prim.Native.Nat.{_≤_};
+ghost use Rattle.queue.specs.Offers.{members, Room, Stored, Offering, Offered};
 
-// Offers the words that may follow `last`, ascending, as found from place i: each goes to the queue's end unless it is there already.
+// Stores the words of one block of a set at the queue's end, ascending, as found from place i. Gives the queue's new length.
+fn store_block(
+    first: usize,
+    block: u64,
+    i: usize,
+    found: usize,
+    words: &mut [usize],
+    froms: &mut [usize],
+) -> usize
+    requires { ⌜ (first ≤ 128) × Room (members first block) found (now words) (now froms) ⌝ }
+    ensures { λ r. ⌜ Stored (members first block) i found (now (words .entry)) (now (froms .entry)) (now (words .exit)) (now (froms .exit)) r ⌝ }
+{
+    let mut n = found;
+    let mut rest = block;
+    while rest != 0 {
+        let low = points::lowest(rest);
+        words[n] = first + low;
+        froms[n] = i;
+        n += 1;
+        rest = points::but_lowest(rest);
+    }
+    n
+}
+
+// Offers the words that come after `last`, ascending, as found from place i: each that is unseen goes to the queue's end and is unseen no more.
 // Gives the queue's new length.
 pub fn offer_next(
-    zones: usize,
-    ends: &[usize],
-    position: &[u32],
-    first: &[usize],
-    after: &[usize],
-    carrier: u32,
+    follows: &[u64],
     last: usize,
     i: usize,
     found: usize,
     words: &mut [usize],
     froms: &mut [usize],
-    seen: &mut [u8],
+    unseen: &mut [u64],
 ) -> usize
-    requires { ⌜ Offering zones (now ends) (now position) (now first) (now after) last i (now words) (now froms) (now seen) found ⌝ }
-    ensures { λ r. ⌜ Offered zones (now (ends .entry)) (now (position .entry)) carrier last i (now (words .entry)) (now (froms .entry)) found (now (words .exit)) (now (froms .exit)) (now (seen .exit)) r ⌝ }
+    requires { ⌜ Offering (now follows) last found (now words) (now froms) (now unseen) ⌝ }
+    ensures { λ r. ⌜ Offered (now (follows .entry)) last i found (now (words .entry)) (now (froms .entry)) (now (unseen .entry)) (now (words .exit)) (now (froms .exit)) (now (unseen .exit)) r ⌝ }
 {
-    let point = words::leaving(ends, last);
     let mut n = found;
-    let mut next = first[point];
-    while next < 2 * zones {
-        let w = next;
-        next = after[w];
-        if !words::may_follow(position, carrier, last, w) {
-            continue;
-        }
-        if seen[w] == 1 {
-            continue;
-        }
-        seen[w] = 1;
-        words[n] = w;
-        froms[n] = i;
-        n += 1;
+    let mut k = 0;
+    while k < 3 {
+        let next = follows[3 * last + k] & unseen[k];
+        unseen[k] = points::without(unseen[k], next);
+        n = store_block(64 * k, next, i, n, words, froms);
+        k += 1;
     }
     n
 }

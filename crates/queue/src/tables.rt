@@ -1,17 +1,53 @@
-// What is read off the track: for each point the words that start there.
-ghost use Rattle.queue.specs.Words.{Unlinked, Linked};
+// What is read off the track: for each word the set of the words that come after it.
+ghost use mathlib.Core.Path.{_≡_};
+ghost use Prim.Native.Nat.{_+_, _*_, _≤_, _<_};
+ghost use lib.ListN.{length, replicate};
+use crate::sets::add_word;
+ghost use Rattle.queue.specs.Follows.{Sized, Starts, RowFilled, Follows};
 
-// Links the words that start at each point, ascending: `first` has the first word of each point, `after` the next one after each word.
-// A number of 2 × zones or more ends a chain.
-pub fn link_words(zones: usize, ends: &[usize], first: &mut [usize], after: &mut [usize])
-    requires { ⌜ Unlinked zones (now ends) (now first) (now after) ⌝ }
-    ensures { λ r. ⌜ Linked zones (now (ends .entry)) (now (first .exit)) (now (after .exit)) ⌝ }
+// Puts each word into the row of the point where it starts.
+fn fill_starts(zones: usize, ends: &[usize], starts: &mut [u64])
+    requires { ⌜ Sized zones (now ends) × (now starts ≡ replicate 192 0) ⌝ }
+    ensures { λ r. ⌜ Starts (2 * zones) (now (ends .entry)) (now (starts .exit)) ⌝ }
 {
-    let mut w = 2 * zones;
-    while 0 < w {
-        w -= 1;
-        let point = ends[w];
-        after[w] = first[point];
-        first[point] = w;
+    let mut w = 0;
+    while w < 2 * zones {
+        add_word(192 * ends[w] + w, starts);
+        w += 1;
     }
+}
+
+// Fills the row of word w: the words that start at the point, but for those of its own zone.
+fn fill_row(starts: &[u64], point: usize, w: usize, follows: &mut [u64])
+    requires { ⌜ (3 * point + 3 ≤ length (now starts)) × (w < 192) × (3 * w + 3 ≤ length (now follows)) ⌝ }
+    ensures { λ r. ⌜ RowFilled (now (starts .entry)) point w (now (follows .entry)) (now (follows .exit)) ⌝ }
+{
+    follows[3 * w] = starts[3 * point];
+    follows[3 * w + 1] = starts[3 * point + 1];
+    follows[3 * w + 2] = starts[3 * point + 2];
+    let own = points::with(points::with(0, 2 * (w / 2) % 64), (2 * (w / 2) + 1) % 64);
+    let block = 3 * w + w / 64;
+    follows[block] = points::without(follows[block], own);
+}
+
+// Fills the rows of all words.
+fn fill_rows(zones: usize, ends: &[usize], starts: &[u64], follows: &mut [u64])
+    requires { ⌜ Sized zones (now ends) × Starts (2 * zones) (now ends) (now starts) × (length (now follows) ≡ 576) ⌝ }
+    ensures { λ r. ⌜ Follows zones (2 * zones) (now (ends .entry)) (now (follows .exit)) ⌝ }
+{
+    let mut w = 0;
+    while w < 2 * zones {
+        fill_row(starts, words::leaving(ends, w), w, follows);
+        w += 1;
+    }
+}
+
+// Fills the table of the words that come after each word.
+pub fn fill_follows(zones: usize, ends: &[usize], follows: &mut [u64])
+    requires { ⌜ Sized zones (now ends) × (length (now follows) ≡ 576) ⌝ }
+    ensures { λ r. ⌜ Follows zones (2 * zones) (now (ends .entry)) (now (follows .exit)) ⌝ }
+{
+    let mut starts = [0u64; 192];
+    fill_starts(zones, ends, &mut starts);
+    fill_rows(zones, ends, &starts, follows);
 }

@@ -12,9 +12,13 @@ use Rattle.model.specs.Reading.{refusal, trackSaid, positionSaid}
 use Rattle.rules.specs.Routes.{Entry}
 use Rattle.rules.specs.Search.{leastFrom}
 
--- word v is in another zone than word w, one that is free to carrier c: nobody holds it, or c itself does
+-- word v is in a zone that is free to carrier c: nobody holds it, or c itself does
+abbrev pub mayEnter : Position → ℕ → ℕ → Bool
+mayEnter p c v = eqb (at p (zoneOf v)) 0 || eqb (carrierOf (at p (zoneOf v))) c
+
+-- and in another zone than word w
 abbrev pub mayFollow : Position → ℕ → ℕ → ℕ → Bool
-mayFollow p c w v = not (eqb (zoneOf v) (zoneOf w)) && (eqb (at p (zoneOf v)) 0 || eqb (carrierOf (at p (zoneOf v))) c)
+mayFollow p c w v = not (eqb (zoneOf v) (zoneOf w)) && mayEnter p c v
 
 -- the step rule, tested: carrier c from word w to word v
 abbrev pub steps : Track → Position → ℕ → ℕ → ℕ → Bool

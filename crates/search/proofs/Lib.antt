@@ -1,3 +1,4 @@
+pub mod Entering
 pub mod Looks
 pub mod Trying
 pub mod Retiring

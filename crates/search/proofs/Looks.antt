@@ -3,56 +3,56 @@
 use Prim.Native.Nat.{ℕ, suc, _+_, _-_, _*_, _≤_, _<_}
 use mathlib.Core.Path.{_≡_, refl, sym, _∙_, ap, ap₂}
 use mathlib.Core.List.{List}
+use mathlib.Core.Bool.{not, _&&_}
 use mathlib.Core.Option.{none, some}
 use native.Mathlib.Omega.{arith}
 use native.Mathlib.Nat.{sub-zero}
 use native.Mathlib.Numerals.{add-one}
-use lib.ListN.{length, getD, set, replicate, length-set, length-replicate, getD-replicate}
+use lib.ListN.{length, getD, set}
 use lib.Seq.{take-suc-set}
 use lib.Dec.{eqb}
 use borrow.Author.Tests.{eq-eqb, ne-eqb}
 use Rattle.model.specs.Track.{Track, rev}
 use Rattle.rules.specs.Search.{leastFrom}
-use Rattle.rules.specs.Key.{nexts, leavesHome}
+use Rattle.rules.specs.Key.{mayEnter, nexts, leavesHome}
 use Rattle.least.specs.Queue.{Queue, Found, offerAll, searchOn, searchFrom, wayOf}
 use Rattle.least.proofs.SearchLaws.{search-past, search-goal, search-on, search-from}
 use Rattle.least.proofs.BreadthFirst.{search-least}
 use Rattle.order.proofs.Steps.{nexts-ascending, nexts-below}
-use Rattle.queue.specs.Searching.{queueIn, Queued, Offered}
+use Rattle.queue.specs.WordSets.{hasWord}
+use Rattle.queue.specs.Offers.{Offered}
+use Rattle.queue.specs.Searching.{Tables, queueIn, Queued}
 use Rattle.queue.specs.Written.{routeTo}
-use Rattle.queue.proofs.OfferLaws.{queued-more}
-use Rattle.queue.proofs.QueueArrays.{queued-most, queue-size, queue-word, route-in, queued-none}
+use Rattle.queue.proofs.OfferLaws.{offered-queued, offered-later, offered-queue}
+use Rattle.queue.proofs.QueueArrays.{queued-most, queue-size, queue-word, route-in, queued-one}
 use Rattle.search.specs.Leaving.{homeTrack}
 
 -- the search of one carrier, at place i
-pub record Looking (home zones : ℕ) (ends p : List ℕ) (c standing : ℕ) (words₀ froms₀ words froms seen : List ℕ) (n i : ℕ) : Type 0 where
-  pub queued : Queued (2 * zones) words froms seen n
+pub record Looking (home zones : ℕ) (ends p : List ℕ) (c standing : ℕ) (words₀ froms₀ words froms unseen : List ℕ) (n i : ℕ) : Type 0 where
+  pub queued : Queued (2 * zones) p c words froms unseen n
   pub low : i ≤ n
   pub same-words : length words ≡ length words₀
   pub same-froms : length froms ≡ length froms₀
-  pub full : length seen ≡ 192
   pub search :
       searchOn (nexts (homeTrack home zones ends) p c) (leavesHome (homeTrack home zones ends)) (2 * zones - i) (queueIn words froms n) i ≡
       searchFrom (nexts (homeTrack home zones ends) p c) (leavesHome (homeTrack home zones ends)) (2 * zones) standing
 
-pub looking-starts : (home zones : ℕ) (ends p : List ℕ) (c standing : ℕ) (words froms : List ℕ) → zones ≤ 96 → 2 * zones ≤ length words → 2 * zones ≤ length froms → standing < 2 * zones
-    → Looking home zones ends p c standing (set words 0 standing) (set froms 0 0) (set words 0 standing) (set froms 0 0) (set (replicate 192 0) standing 1) 1 0
-looking-starts home zones ends p c standing words froms s a b h = record {
-  queued =
-      queued-more (queued-none (2 * zones) words froms (omega arith) a b) standing 0 h
-      (ap (λ (x : ℕ). eqb x 1) (getD-replicate 192 standing 0 0 (omega arith))) (λ l. absurd (omega arith));
+pub looking-starts : (home zones : ℕ) (ends p : List ℕ) (c standing : ℕ) (words froms unseen : List ℕ) → 2 * zones ≤ length words → 2 * zones ≤ length froms → length unseen ≡ 3 → standing < 2 * zones
+    → ((v : ℕ) → v < 2 * zones → hasWord unseen v ≡ (mayEnter p c v && not (eqb v standing)))
+    → Looking home zones ends p c standing (set words 0 standing) (set froms 0 0) (set words 0 standing) (set froms 0 0) unseen 1 0
+looking-starts home zones ends p c standing words froms unseen a b d h marks = record {
+  queued = queued-one (2 * zones) p c words froms unseen standing a b d h marks;
   low = omega arith;
   same-words = refl;
   same-froms = refl;
-  full = length-set (replicate 192 0) standing 1 ∙ length-replicate {A = ℕ} 192 0;
   search =
       ap₂ (λ (k : ℕ) (q : Queue). searchOn (nexts (homeTrack home zones ends) p c) (leavesHome (homeTrack home zones ends)) k q 0) (sub-zero (2 * zones))
       (ap₂ (λ (v u : List ℕ). record { words = v; froms = u }) (take-suc-set words 0 standing (omega arith)) (take-suc-set froms 0 0 (omega arith))) ∙
       sym (search-from (nexts (homeTrack home zones ends) p c) (leavesHome (homeTrack home zones ends)) (2 * zones) standing);
 }
 
-module _ {home zones : ℕ} {ends p : List ℕ} {c standing : ℕ} {words₀ froms₀ words froms seen : List ℕ} {n i : ℕ}
-    (l : Looking home zones ends p c standing words₀ froms₀ words froms seen n i) where
+module _ {home zones : ℕ} {ends p : List ℕ} {c standing : ℕ} {words₀ froms₀ words froms unseen : List ℕ} {n i : ℕ}
+    (l : Looking home zones ends p c standing words₀ froms₀ words froms unseen n i) where
   abbrev t : Track
   t = homeTrack home zones ends
 
@@ -84,18 +84,17 @@ module _ {home zones : ℕ} {ends p : List ℕ} {c standing : ℕ} {words₀ fro
         ends-at s (sym search-here ∙ search-goal (nexts t p c) (leavesHome t) (2 * zones - suc i) q i (rw (queue-size (l .queued)) h) (ap (leavesHome t) (queue-word (l .queued) i h) ∙ eq-eqb _ _ e)) ∙
         ap some (route-in (l .queued) i h)
 
-    module _ (e : getD ends (rev (getD words i 0)) 0 ≡ home → ⊥) {words′ froms′ seen′ : List ℕ} {r : ℕ} (o : Offered zones ends p c (getD words i 0) i words froms n words′ froms′ seen′ r)
-        (as-words : length words′ ≡ length words) (as-froms : length froms′ ≡ length froms) (as-seen : length seen′ ≡ length seen) where
-      pub looking-more : Looking home zones ends p c standing words₀ froms₀ words′ froms′ seen′ r (i + 1)
+    module _ (e : getD ends (rev (getD words i 0)) 0 ≡ home → ⊥) {follows : List ℕ} (tables : Tables zones ends p follows) {words′ froms′ unseen′ : List ℕ} {r : ℕ}
+        (o : Offered follows (getD words i 0) i n words froms unseen words′ froms′ unseen′ r) (as-words : length words′ ≡ length words) (as-froms : length froms′ ≡ length froms) (as-unseen : length unseen′ ≡ length unseen) where
+      pub looking-more : Looking home zones ends p c standing words₀ froms₀ words′ froms′ unseen′ r (i + 1)
       unfolding nexts
       looking-more = rw add-one record {
-        queued = o .queued;
-        low = o .later;
+        queued = offered-queued tables looking-word (l .queued) h o as-words as-froms as-unseen;
+        low = offered-later tables looking-word (l .queued) h o;
         same-words = as-words ∙ l .same-words;
         same-froms = as-froms ∙ l .same-froms;
-        full = as-seen ∙ l .full;
         search =
-            ap (λ (x : Queue). searchOn (nexts t p c) (leavesHome t) (2 * zones - suc i) x (suc i)) (o .queue ∙ ap (λ (w : ℕ). offerAll i q (nexts t p c w)) (sym (queue-word (l .queued) i h))) ∙
+            ap (λ (x : Queue). searchOn (nexts t p c) (leavesHome t) (2 * zones - suc i) x (suc i)) (offered-queue tables looking-word (l .queued) h o ∙ ap (λ (w : ℕ). offerAll i q (nexts t p c w)) (sym (queue-word (l .queued) i h))) ∙
             sym (search-on (nexts t p c) (leavesHome t) (2 * zones - suc i) q i (rw (queue-size (l .queued)) h) (ap (leavesHome t) (queue-word (l .queued) i h) ∙ ne-eqb _ _ e)) ∙
             search-here;
       }

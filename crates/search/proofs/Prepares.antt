@@ -1,39 +1,35 @@
--- What the rounds ask holds once the tables and the order are made, in arrays of their sizes.
--- From the board's own facts, and what the linking and the sorting give.
+-- What the rounds ask holds once the table, the set and the order are made, in arrays of their sizes.
+-- From the board's own facts, and what the filling and the sorting give; what the rounds give does not depend on the count of points (Runs).
 use Prim.Native.Nat.{ℕ, _*_}
-use mathlib.Core.Path.{_≡_, sym, _∙_, ap}
+use mathlib.Core.Path.{_≡_, sym, _∙_, ap, subst}
 use mathlib.Core.List.{List}
 use native.Mathlib.Omega.{arith}
-use lib.ListN.{length, replicate, length-replicate, getD-replicate}
+use lib.ListN.{length, replicate, length-replicate}
 use Rattle.carriers.specs.Order.{Sorted}
 use Rattle.carriers.proofs.Sorting.{length-carriers}
-use Rattle.queue.specs.Words.{Unlinked, Linked}
-use Rattle.search.specs.Sending.{Ready, Prepared}
+use Rattle.queue.specs.WordSets.{FreeWords}
+use Rattle.queue.specs.Follows.{Sized, Follows}
+use Rattle.search.specs.Sending.{Ready, Prepared, SentHome}
 use Rattle.search.proofs.Retiring.{sorted-in-order}
+use Rattle.search.proofs.Runs.{sent-points}
 
 module _ {points home zones : ℕ} {ends p plan : List ℕ} (ready : Ready points home zones ends p plan) where
-  pub ready-unlinked : Unlinked zones ends (replicate 64 (2 * zones)) (replicate 192 0)
-  ready-unlinked = record {
-    each = omega (arith, ready .ends-count);
-    room = rw length-replicate (omega (arith, ready .zones-most));
-    inside = λ w h. rw length-replicate (omega (arith, ready .laid .inside w h, ready .points-most));
-    begun = λ q h. getD-replicate 64 q (2 * zones) 0 (rw length-replicate at h);
+  pub ready-sized : Sized zones ends
+  ready-sized = record {
+    few = ready .zones-most;
+    both = omega (arith, ready .ends-count);
+    inside = λ w h. omega (arith, ready .laid .inside w h, ready .points-most);
   }
 
-  pub ready-prepared : {first after order : List ℕ} {count : ℕ} → Linked zones ends first after → length first ≡ 64 → length after ≡ 192 → Sorted p order count
-      → Prepared zones ends p first after order count (replicate 192 0) (replicate 192 0) plan
-  ready-prepared {first} {after} {order} {count} linked f a sorted = record {
+  pub ready-prepared : {follows free order : List ℕ} {count : ℕ} → Follows zones (2 * zones) ends follows → length follows ≡ 576 → FreeWords p free → length free ≡ 3 → Sorted p order count
+      → Prepared (length p) ends p follows free order count (replicate 192 0) (replicate 192 0) plan
+  ready-prepared {follows} {free} {order} {count} filled f words b sorted = rw (ready .laid .each) record {
     seeking = record {
-      tables = record {
-        each = ready .laid .each;
-        both = ready .ends-count;
-        inside = λ w h. omega (arith, f, ready .laid .inside w h, ready .points-most);
-        room = omega (arith, a, ready .zones-most);
-        linked = linked;
-      };
+      tables = record { few = ready .zones-most; each = ready .laid .each; both = ready .ends-count; rows = f; filled = filled };
+      blocks = b;
+      free-words = words;
       once = ready .laid .once;
       free-heading = ready .laid .free-heading;
-      few = ready .zones-most;
       room-words = rw length-replicate (omega (arith, ready .zones-most));
       room-froms = rw length-replicate (omega (arith, ready .zones-most));
       in-order = sorted-in-order sorted;
@@ -42,3 +38,6 @@ module _ {points home zones : ℕ} {ends p plan : List ℕ} (ready : Ready point
     numbers = ready .numbers;
     room = ready .room;
   }
+
+  pub ready-sent : {p′ plan′ : List ℕ} {r : ℕ} → SentHome 0 home (length p) ends p plan p′ plan′ r → SentHome points home zones ends p plan p′ plan′ r
+  ready-sent {p′} {plan′} {r} s = sent-points 0 points home zones ends (subst (λ (z : ℕ). SentHome 0 home z ends p plan p′ plan′ r) (ready .laid .each) s)

@@ -1,19 +1,22 @@
 -- Laws of the rounds: what is written and the run from here make the whole run's plan, and end in its last position.
 -- One round is one step of the key's run; with none left to go, nothing is left of it.
 use Prim.Native.Nat.{ℕ, suc, _+_, _-_, _*_, _≤_, _<_}
-use mathlib.Core.Path.{_≡_, refl, sym, _∙_, ap, ap₂, subst}
+use mathlib.Core.Path.{_≡_, refl, sym, _∙_, ap, ap₂, subst, subst₂}
 use mathlib.Core.List.{List, [], _∷_, _++_, append-nil, append-assoc}
+use mathlib.Core.Bool.{Bool, true, false, _||_, or-true, or-false}
 use mathlib.Core.Logic.{⊎-elim}
 use native.Mathlib.Omega.{arith}
 use native.Mathlib.Nat.{suc-mul}
-use lib.ListN.{length, take, drop, set, length-append}
+use lib.ListN.{length, take, drop, set, length-append, length-set}
 use lib.Dec.{eqb}
-use lib.Seq.{take-append-seam, drop-append-add, drop-drop}
-use Rattle.model.specs.Track.{Track, headingOf}
-use Rattle.model.specs.Position.{Position, at, carrierOf, Stands, Once, retire, outs}
+use lib.Seq.{take-append-seam, drop-append-add, drop-drop, getD-set-same, getD-set-other}
+use borrow.Author.Tests.{eqb-true, eqb-false, eq-eqb}
+use Rattle.model.specs.Track.{Track, zoneOf, headingOf}
+use Rattle.model.specs.Position.{Position, at, carrierOf, isFree, Stands, Once, retire, outs}
 use Rattle.model.proofs.WordLaws.{heading-small, zone-word}
 use Rattle.model.proofs.PositionLaws.{once-retire, held-stands, retire-set, outs-retire-length, length-without, without-cases}
 use Rattle.rules.specs.Key.{Run, run, planWords}
+use Rattle.queue.specs.WordSets.{hasWord, ZoneAdded, FreeWords}
 use Rattle.queue.specs.Written.{routeTo, entryOf, EntryRoom, EntryWritten}
 use Rattle.least.proofs.PathLaws.{path-length}
 use Rattle.search.specs.Leaving.{homeTrack, Seeking, Sought}
@@ -24,11 +27,12 @@ use Rattle.search.proofs.Retiring.{in-order-retire}
 use Rattle.search.proofs.Runs.{run-none, run-out, run-step}
 
 -- the rounds, with the carriers of `written` gone and k words stored
-pub record Underway (home zones : ℕ) (ends first after order : List ℕ) (count : ℕ) (words₀ froms₀ p₀ plan₀ words froms p plan : List ℕ) (left k : ℕ) : Type 0 where
-  pub seeking : Seeking zones ends p first after order count words froms
+pub record Underway (home zones : ℕ) (ends follows order : List ℕ) (count : ℕ) (words₀ froms₀ free₀ p₀ plan₀ words froms free p plan : List ℕ) (left k : ℕ) : Type 0 where
+  pub seeking : Seeking zones ends p follows free order count words froms
   pub numbers : (z : ℕ) → at p z < 131072
   pub same-words : length words ≡ length words₀
   pub same-froms : length froms ≡ length froms₀
+  pub same-free : length free ≡ length free₀
   pub same-position : length p ≡ length p₀
   pub same-plan : length plan ≡ length plan₀
   pub counted : left ≡ length (outs p)
@@ -39,13 +43,14 @@ pub record Underway (home zones : ℕ) (ends first after order : List ℕ) (coun
   pub rest-plan : written ++ planOf (homeTrack home zones ends) p ≡ planOf (homeTrack home zones ends) p₀
   pub rest-last : run (homeTrack home zones ends) p .last ≡ run (homeTrack home zones ends) p₀ .last
 
-pub underway-starts : (home : ℕ) {zones : ℕ} {ends p first after order : List ℕ} {count : ℕ} {words froms plan : List ℕ} → Prepared zones ends p first after order count words froms plan
-    → Underway home zones ends first after order count words froms p plan words froms p plan count 0
+pub underway-starts : (home : ℕ) {zones : ℕ} {ends p follows free order : List ℕ} {count : ℕ} {words froms plan : List ℕ} → Prepared zones ends p follows free order count words froms plan
+    → Underway home zones ends follows order count words froms free p plan words froms free p plan count 0
 underway-starts home {zones} m = record {
   seeking = m .seeking;
   numbers = m .numbers;
   same-words = refl;
   same-froms = refl;
+  same-free = refl;
   same-position = refl;
   same-plan = refl;
   counted = m .counted;
@@ -57,8 +62,8 @@ underway-starts home {zones} m = record {
   rest-last = refl;
 }
 
-module _ {home zones : ℕ} {ends first after order : List ℕ} {count : ℕ} {words₀ froms₀ p₀ plan₀ words froms p plan : List ℕ} {left k : ℕ}
-    (u : Underway home zones ends first after order count words₀ froms₀ p₀ plan₀ words froms p plan left k) where
+module _ {home zones : ℕ} {ends follows order : List ℕ} {count : ℕ} {words₀ froms₀ free₀ p₀ plan₀ words froms free p plan : List ℕ} {left k : ℕ}
+    (u : Underway home zones ends follows order count words₀ froms₀ free₀ p₀ plan₀ words froms free p plan left k) where
   abbrev t : Track
   t = homeTrack home zones ends
 
@@ -74,6 +79,9 @@ module _ {home zones : ℕ} {ends first after order : List ℕ} {count : ℕ} {w
       all : u .written ≡ planOf t p₀
       all = sym (append-nil (u .written)) ∙ ap (λ (r : Run). u .written ++ planWords (r .plan)) (sym e) ∙ u .rest-plan
 
+  pub underway-seeks : Seeking (length p) ends p follows free order count words froms
+  underway-seeks = subst (λ (z : ℕ). Seeking z ends p follows free order count words froms) (sym (u .seeking .tables .each)) (u .seeking)
+
   pub underway-done : left ≤ 0 → SentHome 0 home zones ends p₀ plan₀ p plan k
   underway-done h = ends-here (run-out t p (omega (arith, u .counted)))
 
@@ -81,20 +89,20 @@ module _ {home zones : ℕ} {ends first after order : List ℕ} {count : ℕ} {w
   underway-nobody s = ends-here (run-none t p (sym (s .entry)))
 
 -- the answer is known
-pub sought-at : {home zones : ℕ} {ends p words froms : List ℕ} {r : Goes} (a : Goes) → r ≡ a → Sought home zones ends p words froms r → Sought home zones ends p words froms a
-sought-at {home} {zones} {ends} {p} {words} {froms} a e s = subst (λ (g : Goes). Sought home zones ends p words froms g) e s
+pub sought-at : {home n zones : ℕ} {ends p words froms : List ℕ} {r : Goes} (a : Goes) → r ≡ a → n ≡ zones → Sought home n ends p words froms r → Sought home zones ends p words froms a
+sought-at {home} {ends = ends} {p} {words} {froms} a e z s = subst₂ (λ (m : ℕ) (g : Goes). Sought home m ends p words froms g) z e s
 
 -- one of the carriers left goes
-pub record OneGoes (home zones : ℕ) (ends first after order : List ℕ) (count : ℕ) (words₀ froms₀ p₀ plan₀ words froms p plan : List ℕ) (left k : ℕ) (words′ froms′ : List ℕ) (zone place : ℕ) : Type 0 where
-  pub underway : Underway home zones ends first after order count words₀ froms₀ p₀ plan₀ words froms p plan left k
+pub record OneGoes (home zones : ℕ) (ends follows order : List ℕ) (count : ℕ) (words₀ froms₀ free₀ p₀ plan₀ words froms free p plan : List ℕ) (left k : ℕ) (words′ froms′ : List ℕ) (zone place : ℕ) : Type 0 where
+  pub underway : Underway home zones ends follows order count words₀ froms₀ free₀ p₀ plan₀ words froms free p plan left k
   pub some-left : 0 < left
   pub same-words : length words′ ≡ length words
   pub same-froms : length froms′ ≡ length froms
   pub sought : Sought home zones ends p words′ froms′ (From zone place)
 
-module _ {home zones : ℕ} {ends first after order : List ℕ} {count : ℕ} {words₀ froms₀ p₀ plan₀ words froms p plan : List ℕ} {left k : ℕ} {words′ froms′ : List ℕ} {zone place : ℕ}
-    (x : OneGoes home zones ends first after order count words₀ froms₀ p₀ plan₀ words froms p plan left k words′ froms′ zone place) where
-  abbrev u : Underway home zones ends first after order count words₀ froms₀ p₀ plan₀ words froms p plan left k
+module _ {home zones : ℕ} {ends follows order : List ℕ} {count : ℕ} {words₀ froms₀ free₀ p₀ plan₀ words froms free p plan : List ℕ} {left k : ℕ} {words′ froms′ : List ℕ} {zone place : ℕ}
+    (x : OneGoes home zones ends follows order count words₀ froms₀ free₀ p₀ plan₀ words froms free p plan left k words′ froms′ zone place) where
+  abbrev u : Underway home zones ends follows order count words₀ froms₀ free₀ p₀ plan₀ words froms free p plan left k
   u = x .underway
 
   abbrev track : Track
@@ -110,7 +118,10 @@ module _ {home zones : ℕ} {ends first after order : List ℕ} {count : ℕ} {w
   goes-inside = x .sought .given .inside
 
   pub goes-few : zone < 96
-  goes-few = omega (arith, goes-inside, u .seeking .tables .each, u .seeking .few)
+  goes-few = omega (arith, goes-inside, u .seeking .tables .each, u .seeking .tables .few)
+
+  pub goes-blocks : length free ≡ 3
+  goes-blocks = u .seeking .blocks
 
   once : Once p
   once = u .seeking .once
@@ -124,7 +135,7 @@ module _ {home zones : ℕ} {ends first after order : List ℕ} {count : ℕ} {w
   goes-entry = record {
     readable = x .sought .given .readable;
     number = omega (arith, u .numbers zone);
-    few = omega (arith, x .sought .given .few, u .seeking .few);
+    few = omega (arith, x .sought .given .few, u .seeking .tables .few);
     room = omega (arith, x .sought .given .few, one-entry, u .room, u .same-plan);
   }
 
@@ -137,25 +148,40 @@ module _ {home zones : ℕ} {ends first after order : List ℕ} {count : ℕ} {w
   freed : retire carrier p ≡ set p zone 0
   freed = retire-set once stands ∙ ap (λ (z : ℕ). set p z 0) (zone-word zone (headingOf (at p zone)) (heading-small (at p zone)))
 
-  retired-seeking : Seeking zones ends (retire carrier p) first after order count words′ froms′
-  retired-seeking = record {
-    tables = record { each = length-without (eqb carrier) p ∙ u .seeking .tables .each; both = u .seeking .tables .both; inside = u .seeking .tables .inside; room = u .seeking .tables .room; linked = u .seeking .tables .linked };
+  -- the zone's words are free then
+  freed-words : {free′ : List ℕ} → ZoneAdded zone free free′ → FreeWords (retire carrier p) free′
+  freed-words {free′} a = rw freed record { has = λ v h. has v (rw length-set at h) (eqb (zoneOf v) zone) refl }
+    where
+      has : (v : ℕ) → zoneOf v < length p → (t : Bool) → eqb (zoneOf v) zone ≡ t → hasWord free′ v ≡ isFree (set p zone 0) (zoneOf v)
+      has v h true e =
+          a .has v ∙ ap (λ (b : Bool). hasWord free v || b) e ∙ or-true (hasWord free v) ∙
+          sym (eq-eqb _ _ (ap (at (set p zone 0)) (eqb-true (zoneOf v) zone e) ∙ getD-set-same p zone 0 0 goes-inside))
+      has v h false e =
+          a .has v ∙ ap (λ (b : Bool). hasWord free v || b) e ∙ or-false (hasWord free v) ∙
+          u .seeking .free-words .has v h ∙
+          ap (λ (x : ℕ). eqb x 0) (sym (getD-set-other p zone (zoneOf v) 0 0 (eqb-false (zoneOf v) zone e)))
+
+  retired-seeking : {free′ : List ℕ} → ZoneAdded zone free free′ → length free′ ≡ length free → Seeking zones ends (retire carrier p) follows free′ order count words′ froms′
+  retired-seeking a b = record {
+    tables = record { few = u .seeking .tables .few; each = length-without (eqb carrier) p ∙ u .seeking .tables .each; both = u .seeking .tables .both; rows = u .seeking .tables .rows; filled = u .seeking .tables .filled };
+    blocks = b ∙ u .seeking .blocks;
+    free-words = freed-words a;
     once = once-retire carrier p once;
     free-heading = λ z e. ⊎-elim (λ q. u .seeking .free-heading z (sym q ∙ e)) (λ q. let f : at (retire carrier p) z ≡ 0 = q .1 in omega arith) (without-cases (eqb carrier) p z);
-    few = u .seeking .few;
     room-words = omega (arith, u .seeking .room-words, x .same-words);
     room-froms = omega (arith, u .seeking .room-froms, x .same-froms);
     in-order = in-order-retire carrier once (u .seeking .in-order);
   }
 
-  module _ {plan′ : List ℕ} {r : ℕ} (w : EntryWritten carrier place words′ froms′ plan k plan′ r) (as-plan : length plan′ ≡ length plan) where
-    retired : Underway home zones ends first after order count words₀ froms₀ p₀ plan₀ words′ froms′ (retire carrier p) plan′ (left - 1) r
+  module _ {plan′ free′ : List ℕ} {r : ℕ} (w : EntryWritten carrier place words′ froms′ plan k plan′ r) (as-plan : length plan′ ≡ length plan) (added : ZoneAdded zone free free′) (as-free : length free′ ≡ length free) where
+    retired : Underway home zones ends follows order count words₀ froms₀ free₀ p₀ plan₀ words′ froms′ free′ (retire carrier p) plan′ (left - 1) r
     unfolding planWords
     retired = record {
-      seeking = retired-seeking;
+      seeking = retired-seeking added as-free;
       numbers = λ z. ⊎-elim (λ e. rw e (u .numbers z)) (λ e. rw (e .1) (omega arith)) (without-cases (eqb carrier) p z);
       same-words = x .same-words ∙ u .same-words;
       same-froms = x .same-froms ∙ u .same-froms;
+      same-free = as-free ∙ u .same-free;
       same-position = length-without (eqb carrier) p ∙ u .same-position;
       same-plan = as-plan ∙ u .same-plan;
       counted = omega (arith, x .some-left, u .counted, outs-retire-length carrier p once (_, stands));
@@ -180,5 +206,5 @@ module _ {home zones : ℕ} {ends first after order : List ℕ} {count : ℕ} {w
         stored : plan′ ≡ (u .written ++ entry) ++ drop r plan₀
         stored = w .stored ∙ ap₂ (λ (a b : List ℕ). a ++ (entry ++ b)) before beyond ∙ sym (append-assoc (u .written) entry (drop r plan₀))
 
-    pub goes-more : Underway home zones ends first after order count words₀ froms₀ p₀ plan₀ words′ froms′ (set p zone 0) plan′ (left - 1) r
-    goes-more = subst (λ (y : Position). Underway home zones ends first after order count words₀ froms₀ p₀ plan₀ words′ froms′ y plan′ (left - 1) r) freed retired
+    pub goes-more : Underway home zones ends follows order count words₀ froms₀ free₀ p₀ plan₀ words′ froms′ free′ (set p zone 0) plan′ (left - 1) r
+    goes-more = subst (λ (y : Position). Underway home zones ends follows order count words₀ froms₀ free₀ p₀ plan₀ words′ froms′ free′ y plan′ (left - 1) r) freed retired

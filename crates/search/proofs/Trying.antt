@@ -1,13 +1,13 @@
 -- Laws of the search over the carriers: those left to try decide who goes first.
 -- A zone that is free, or whose carrier's search finds nothing, is passed; the first whose search finds home goes.
 use Prim.Native.Nat.{ℕ, suc, _+_, _*_, _≤_, _<_}
-use mathlib.Core.Path.{_≡_, refl, sym, _∙_, ap}
-use mathlib.Core.List.{List, _∷_}
+use mathlib.Core.Path.{_≡_, refl, sym, _∙_, ap, subst}
+use mathlib.Core.List.{List, [], _∷_}
 use mathlib.Core.Bool.{Bool, not}
 use mathlib.Core.Option.{Option}
 use native.Mathlib.Omega.{arith}
 use native.Mathlib.Numerals.{add-one}
-use lib.ListN.{length, getD, take, drop, set, replicate, length-set, drop-of-length-le}
+use lib.ListN.{length, getD, take, drop, set, length-set, drop-of-length-le}
 use lib.Seq.{getD-take, length-take-le, drop-cons}
 use borrow.Author.Tests.{eq-eqb, ne-eqb}
 use Rattle.model.specs.Lists.{consIf, keep}
@@ -19,10 +19,13 @@ use Rattle.rules.specs.Key.{nexts, leavesHome, leastRoute, goesElse, firstToGo}
 use Rattle.order.proofs.LeastRoute.{least-at}
 use Rattle.carriers.specs.Order.{carriersIn}
 use Rattle.carriers.proofs.Sorting.{zone-inside}
-use Rattle.queue.specs.Searching.{Offering}
+use Rattle.queue.specs.WordSets.{WordAdded}
+use Rattle.queue.specs.Offers.{Offering}
+use Rattle.queue.proofs.OfferLaws.{offered-room}
 use Rattle.queue.proofs.QueueArrays.{queued-readable}
 use Rattle.search.specs.Leaving.{homeTrack, Seeking, Sought}
 use Rattle.search.specs.declared.Goes.the-variants.{From, Nobody}
+use Rattle.search.proofs.Entering.{three, first-unseen}
 use Rattle.search.proofs.Looks.{Looking, looking-starts, looking-past, looking-few, looking-word, looking-goal}
 
 -- the carriers, with the first k zones tried or free
@@ -32,7 +35,7 @@ pub record Tried (home zones : ℕ) (ends p order : List ℕ) (count : ℕ) (wor
   pub same-froms : length froms ≡ length froms₀
   pub rest : firstToGo (homeTrack home zones ends) p (carriersIn p (keep (λ z. not (isFree p z)) (drop k (take count order)))) ≡ firstToGo (homeTrack home zones ends) p (outs p)
 
-module _ {zones : ℕ} {ends p first after order : List ℕ} {count : ℕ} {words₀ froms₀ : List ℕ} (s : Seeking zones ends p first after order count words₀ froms₀) (home : ℕ) where
+module _ {zones : ℕ} {ends p follows free order : List ℕ} {count : ℕ} {words₀ froms₀ : List ℕ} (s : Seeking zones ends p follows free order count words₀ froms₀) (home : ℕ) where
   pub tried-none : Tried home zones ends p order count words₀ froms₀ words₀ froms₀ 0
   tried-none = record { small = omega arith; same-words = refl; same-froms = refl; rest = ap (firstToGo (homeTrack home zones ends) p) (s .in-order .carriers) }
 
@@ -47,13 +50,13 @@ module _ {zones : ℕ} {ends p first after order : List ℕ} {count : ℕ} {word
   }
 
 -- a zone is left to try
-pub record Next (home zones : ℕ) (ends p first after order : List ℕ) (count : ℕ) (words₀ froms₀ words froms : List ℕ) (k : ℕ) : Type 0 where
-  pub seeking : Seeking zones ends p first after order count words₀ froms₀
+pub record Next (home zones : ℕ) (ends p follows free order : List ℕ) (count : ℕ) (words₀ froms₀ words froms : List ℕ) (k : ℕ) : Type 0 where
+  pub seeking : Seeking zones ends p follows free order count words₀ froms₀
   pub tried : Tried home zones ends p order count words₀ froms₀ words froms k
   pub another : k ≡ count → ⊥
 
-module _ {home zones : ℕ} {ends p first after order : List ℕ} {count : ℕ} {words₀ froms₀ words froms : List ℕ} {k : ℕ}
-    (x : Next home zones ends p first after order count words₀ froms₀ words froms k) where
+module _ {home zones : ℕ} {ends p follows free order : List ℕ} {count : ℕ} {words₀ froms₀ words froms : List ℕ} {k : ℕ}
+    (x : Next home zones ends p follows free order count words₀ froms₀ words froms k) where
   pub next-few : k < count
   next-few = omega (arith, x .tried .small, x .another)
 
@@ -87,12 +90,12 @@ module _ {home zones : ℕ} {ends p first after order : List ℕ} {count : ℕ} 
   }
 
 -- and its zone is held
-pub record Turn (home zones : ℕ) (ends p first after order : List ℕ) (count : ℕ) (words₀ froms₀ words froms : List ℕ) (k : ℕ) : Type 0 where
-  pub next : Next home zones ends p first after order count words₀ froms₀ words froms k
+pub record Turn (home zones : ℕ) (ends p follows free order : List ℕ) (count : ℕ) (words₀ froms₀ words froms : List ℕ) (k : ℕ) : Type 0 where
+  pub next : Next home zones ends p follows free order count words₀ froms₀ words froms k
   pub held : at p (getD order k 0) ≡ 0 → ⊥
 
-module _ {home zones : ℕ} {ends p first after order : List ℕ} {count : ℕ} {words₀ froms₀ words froms : List ℕ} {k : ℕ}
-    (x : Turn home zones ends p first after order count words₀ froms₀ words froms k) where
+module _ {home zones : ℕ} {ends p follows free order : List ℕ} {count : ℕ} {words₀ froms₀ words froms : List ℕ} {k : ℕ}
+    (x : Turn home zones ends p follows free order count words₀ froms₀ words froms k) where
   abbrev zone : ℕ
   zone = getD order k 0
 
@@ -131,12 +134,18 @@ module _ {home zones : ℕ} {ends p first after order : List ℕ} {count : ℕ} 
   decides : leastRoute track p carrier ≡ leastFrom (nexts track p carrier) (leavesHome track) (2 * zones) standing
   decides = least-at track (x .next .seeking .once) (held-stands p zone (next-inside (x .next)) turn-numbered)
 
-  pub turn-looks : Looking home zones ends p carrier standing (set words 0 standing) (set froms 0 0) (set words 0 standing) (set froms 0 0) (set (replicate 192 0) standing 1) 1 0
-  turn-looks =
-      looking-starts home zones ends p carrier standing words froms (x .next .seeking .few)
-      (omega (arith, x .next .seeking .room-words, x .next .tried .same-words)) (omega (arith, x .next .seeking .room-froms, x .next .tried .same-froms)) turn-standing
+  pub turn-blocks : length free ≡ 3
+  turn-blocks = x .next .seeking .blocks
 
-  module _ {words′ froms′ seen : List ℕ} {n i : ℕ} (l : Looking home zones ends p carrier standing (set words 0 standing) (set froms 0 0) words′ froms′ seen n i) where
+  pub turn-looks : {unseen : List ℕ} {w : ℕ} → w ≡ rev standing → WordAdded w (getD free 0 0 ∷ getD free 1 0 ∷ getD free 2 0 ∷ []) unseen → length unseen ≡ 3
+      → Looking home zones ends p carrier standing (set words 0 standing) (set froms 0 0) (set words 0 standing) (set froms 0 0) unseen 1 0
+  turn-looks {unseen} {w} e a b =
+      let added : WordAdded w free unseen = subst (λ (l : List ℕ). WordAdded w l unseen) (three free turn-blocks) a in
+      looking-starts home zones ends p carrier standing words froms unseen
+      (omega (arith, x .next .seeking .room-words, x .next .tried .same-words)) (omega (arith, x .next .seeking .room-froms, x .next .tried .same-froms)) b turn-standing
+      (λ v h. first-unseen p (x .next .seeking .once) zone (next-inside (x .next)) turn-numbered (x .next .seeking .free-words) e added v (omega (arith, x .next .seeking .tables .each)))
+
+  module _ {words′ froms′ unseen : List ℕ} {n i : ℕ} (l : Looking home zones ends p carrier standing (set words 0 standing) (set froms 0 0) words′ froms′ unseen n i) where
     pub turn-words : length words′ ≡ length words₀
     turn-words = l .same-words ∙ length-set words 0 standing ∙ x .next .tried .same-words
 
@@ -166,12 +175,16 @@ module _ {home zones : ℕ} {ends p first after order : List ℕ} {count : ℕ} 
           inside = next-inside (x .next);
           numbered = turn-numbered;
           few = looking-few l b;
-          readable = queued-readable (l .queued) (omega (arith, x .next .seeking .few)) i b;
+          readable = queued-readable (l .queued) (omega (arith, x .next .seeking .tables .few)) i b;
         };
       }
 
-      pub turn-offers : Offering zones ends p first after (getD words′ i 0) i words′ froms′ seen n
-      turn-offers = record { tables = x .next .seeking .tables; word = looking-word l b; queued = l .queued; earlier = b }
+      pub turn-offers : Offering follows (getD words′ i 0) n words′ froms′ unseen
+      turn-offers = record {
+        row = omega (arith, looking-word l b, x .next .seeking .tables .few, x .next .seeking .tables .rows);
+        blocks = l .queued .blocks;
+        room = offered-room (x .next .seeking .tables) (looking-word l b) (l .queued);
+      }
 
       pub turn-leaves : rev (getD words′ i 0) < length ends
       turn-leaves = omega (arith, looking-word l b, x .next .seeking .tables .both)

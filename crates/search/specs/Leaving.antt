@@ -9,6 +9,7 @@ use Rattle.model.specs.Position.{Position, at, carrierOf, Once, outs}
 use Rattle.rules.specs.Routes.{Entry}
 use Rattle.rules.specs.Key.{firstToGo}
 use Rattle.search.specs.Order.{InOrder}
+use Rattle.queue.specs.WordSets.{FreeWords}
 use Rattle.queue.specs.Searching.{Tables}
 use Rattle.queue.specs.Written.{routeTo, Readable}
 use Rattle.search.specs.declared.Goes.{Goes}
@@ -18,12 +19,14 @@ use Rattle.search.specs.declared.Goes.the-variants.{From, Nobody}
 abbrev pub homeTrack : ℕ → ℕ → List ℕ → Track
 homeTrack home zones ends = trackOf 0 home zones ends
 
--- what the search over the carriers asks: no carrier in two zones, no number 1, tables, order, and room for a queue of all words
-pub record Seeking (zones : ℕ) (ends p first after order : List ℕ) (count : ℕ) (words froms : List ℕ) : Type 0 where
-  pub tables : Tables zones ends p first after
+-- what the search over the carriers asks: no carrier in two zones, no number 1, the table, the words of the free zones, the order, and room
+-- for a queue of all words
+pub record Seeking (zones : ℕ) (ends p follows free order : List ℕ) (count : ℕ) (words froms : List ℕ) : Type 0 where
+  pub tables : Tables zones ends p follows
+  pub blocks : length free ≡ 3
+  pub free-words : FreeWords p free
   pub once : Once p
   pub free-heading : (z : ℕ) → at p z ≡ 1 → ⊥
-  pub few : zones ≤ 96
   pub room-words : 2 * zones ≤ length words
   pub room-froms : 2 * zones ≤ length froms
   pub in-order : InOrder p order count

@@ -19,9 +19,9 @@ pub record Ready (points home zones : ℕ) (ends p plan : List ℕ) : Type 0 whe
   pub numbers : (z : ℕ) → at p z < 131072
   pub room : length (outs p) * (2 + 2 * zones) ≤ length plan
 
--- the same with the tables made and the zones in order: what the rounds ask
-pub record Prepared (zones : ℕ) (ends p first after order : List ℕ) (count : ℕ) (words froms plan : List ℕ) : Type 0 where
-  pub seeking : Seeking zones ends p first after order count words froms
+-- the same with the table and the set made and the zones in order: what the rounds ask
+pub record Prepared (zones : ℕ) (ends p follows free order : List ℕ) (count : ℕ) (words froms plan : List ℕ) : Type 0 where
+  pub seeking : Seeking zones ends p follows free order count words froms
   pub counted : count ≡ length (outs p)
   pub numbers : (z : ℕ) → at p z < 131072
   pub room : length (outs p) * (2 + 2 * zones) ≤ length plan

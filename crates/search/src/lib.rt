@@ -1,4 +1,5 @@
 // The key's search: while any carrier can go home, the lowest-numbered that can leaves next, by its least route.
+ghost use lib.ListN.{length};
 ghost use Rattle.search.specs.Leaving.{Seeking, Sought};
 ghost use Rattle.search.specs.Sending.{Ready, Prepared, SentHome};
 
@@ -12,18 +13,17 @@ pub enum Goes {
 // Each carrier's search goes on until a word in the queue leaves at home, or none is left.
 fn first_to_go(
     home: usize,
-    zones: usize,
     ends: &[usize],
     position: &[u32],
-    first: &[usize],
-    after: &[usize],
+    follows: &[u64],
+    free: &[u64],
     order: &[usize],
     count: usize,
     words: &mut [usize],
     froms: &mut [usize],
 ) -> Goes
-    requires { ⌜ Seeking zones (now ends) (now position) (now first) (now after) (now order) count (now words) (now froms) ⌝ }
-    ensures { λ r. ⌜ Sought home zones (now (ends .entry)) (now (position .entry)) (now (words .exit)) (now (froms .exit)) r ⌝ }
+    requires { ⌜ Seeking (length (now position)) (now ends) (now position) (now follows) (now free) (now order) count (now words) (now froms) ⌝ }
+    ensures { λ r. ⌜ Sought home (length (now (position .entry))) (now (ends .entry)) (now (position .entry)) (now (words .exit)) (now (froms .exit)) r ⌝ }
 {
     let mut k = 0;
     'carriers: loop {
@@ -36,10 +36,9 @@ fn first_to_go(
         if held == 0 {
             continue;
         }
-        let carrier = held / 2;
         let standing = 2 * zone + (held % 2) as usize;
-        let mut seen = [0u8; 192];
-        seen[standing] = 1;
+        let mut unseen = [free[0], free[1], free[2]];
+        queue::sets::add_word(words::reverse(standing), &mut unseen);
         words[0] = standing;
         froms[0] = 0;
         let mut found = 1;
@@ -49,52 +48,38 @@ fn first_to_go(
             if words::leaving(ends, w) == home {
                 break 'carriers Goes::From(zone, i);
             }
-            found = queue::offers::offer_next(
-                zones,
-                ends,
-                position,
-                first,
-                after,
-                carrier,
-                w,
-                i,
-                found,
-                words,
-                froms,
-                &mut seen,
-            );
+            found = queue::offers::offer_next(follows, w, i, found, words, froms, &mut unseen);
             i += 1;
         }
     }
 }
 
-// One round after another: the carrier that leaves next is taken off and its entry stored, while any can go. Gives the count of words stored.
+// One round after another: the carrier that leaves next is taken off, its zone is free and its entry is stored, while any can go. Gives the
+// count of words stored.
 fn send_all(
     home: usize,
-    zones: usize,
     ends: &[usize],
-    first: &[usize],
-    after: &[usize],
+    follows: &[u64],
     order: &[usize],
     count: usize,
     words: &mut [usize],
     froms: &mut [usize],
+    free: &mut [u64],
     position: &mut [u32],
     plan: &mut [u16],
 ) -> usize
-    requires { ⌜ Prepared zones (now ends) (now position) (now first) (now after) (now order) count (now words) (now froms) (now plan) ⌝ }
-    ensures { λ r. ⌜ SentHome 0 home zones (now (ends .entry)) (now (position .entry)) (now (plan .entry)) (now (position .exit)) (now (plan .exit)) r ⌝ }
+    requires { ⌜ Prepared (length (now position)) (now ends) (now position) (now follows) (now free) (now order) count (now words) (now froms) (now plan) ⌝ }
+    ensures { λ r. ⌜ SentHome 0 home (length (now (position .entry))) (now (ends .entry)) (now (position .entry)) (now (plan .entry)) (now (position .exit)) (now (plan .exit)) r ⌝ }
 {
     let mut left = count;
     let mut at = 0;
     while 0 < left {
         let goes = first_to_go(
             home,
-            zones,
             ends,
             position,
-            first,
-            after,
+            follows,
+            free,
             order,
             count,
             words,
@@ -105,6 +90,7 @@ fn send_all(
         };
         at = queue::route::write_entry(position[zone] / 2, place, words, froms, plan, at);
         position[zone] = 0;
+        queue::sets::add_zone(zone, free);
         left -= 1;
     }
     at
@@ -122,24 +108,23 @@ pub fn send_home(
     requires { ⌜ Ready points home zones (now ends) (now position) (now plan) ⌝ }
     ensures { λ r. ⌜ SentHome points home zones (now (ends .entry)) (now (position .entry)) (now (plan .entry)) (now (position .exit)) (now (plan .exit)) r ⌝ }
 {
-    let beyond = 2 * zones;
-    let mut first = [beyond; 64];
-    let mut after = [0usize; 192];
-    queue::tables::link_words(zones, ends, &mut first, &mut after);
+    let mut follows = [0u64; 576];
+    queue::tables::fill_follows(zones, ends, &mut follows);
+    let mut free = [0u64; 3];
+    queue::sets::add_free(position, &mut free);
     let mut order = [0usize; 96];
     let count = carriers::order_carriers(position, &mut order);
     let mut words = [0usize; 192];
     let mut froms = [0usize; 192];
     send_all(
         home,
-        zones,
         ends,
-        &first,
-        &after,
+        &follows,
         &order,
         count,
         &mut words,
         &mut froms,
+        &mut free,
         position,
         plan,
     )

@@ -6,7 +6,7 @@ ghost use Rattle.model.specs.Track.{rev};
 ghost use Rattle.rules.specs.Key.{mayFollow};
 
 // The same zone, the other way.
-fn reverse(w: usize) -> usize
+pub fn reverse(w: usize) -> usize
     ensures { λ r. ⌜ r ≡ rev w ⌝ }
 {
     2 * (w / 2) + (1 - w % 2)

@@ -80,14 +80,14 @@ fn group(name: &str, boards: Vec<Board>, rounds: usize) {
     let few = &bytes[..n.min(4)];
     let [key_second] = times(1, few.len(), [&mut || few.iter().for_each(|b| { black_box(second::key(black_box(b), 96 * 194, 96)); })]);
     row(name, "key", &key, &[("port", &key_port), ("scan", &key_scan), ("second", &key_second)]);
-    let [collapse, collapse_port] = times(rounds, n, [
+    let [collapse, collapse_port] = times(10 * rounds, n, [
         &mut || bytes.iter().for_each(|b| { black_box(nizkabel::collapse(black_box(b), &mut list)); }),
         &mut || bytes.iter().for_each(|b| { black_box(port::collapse(black_box(b), &mut list2)); }),
     ]);
     let [collapse_second] = times(2, n, [&mut || bytes.iter().for_each(|b| { black_box(second::collapse(black_box(b), 96)); })]);
     row(name, "collapse", &collapse, &[("port", &collapse_port), ("second", &collapse_second)]);
     let pairs: Vec<(&Vec<u8>, &Vec<u16>)> = bytes.iter().zip(&sheets).collect();
-    let [mark, mark_port] = times(rounds, n, [
+    let [mark, mark_port] = times(10 * rounds, n, [
         &mut || pairs.iter().for_each(|(b, s)| { black_box(nizkabel::mark(black_box(b), s)); }),
         &mut || pairs.iter().for_each(|(b, s)| { black_box(port::mark(black_box(b), s)); }),
     ]);

@@ -37,25 +37,22 @@ shared-slice-read-without c =
 without-requires : tie.Need-without-requires Inv-loop μ-loop
 without-requires c κs = tt
 
-with-requires-2 : tie.Need-with-requires-2 Inv-loop μ-loop
-with-requires-2 c κs = c .before .before .lowest .ensures .inside
-
-without-requires-2 : tie.Need-without-requires-2 Inv-loop μ-loop
-without-requires-2 c κs = tt
+but-lowest-requires : tie.Need-but-lowest-requires Inv-loop μ-loop
+but-lowest-requires c κs = search needs
 
 loop-less : tie.Need-loop-less Inv-loop μ-loop
 loop-less c =
-    let found-p = c .before .before .before .before in
-    rw (c .without2 .ensures, c .before .with2 .ensures, c .before .before .without .ensures)
-    (fewer (found-p .before .before .loop .inv) (found-p .lowest .ensures)
-    (c .before .before .before .shared-slice-known2 .given (found-p .lowest .result) .fits))
+    let found-p = c .before .before .before in
+    let low = found-p .lowest .ensures in
+    rw (c .but-lowest .ensures .rest (found-p .lowest .result) low, c .before .without .ensures)
+    (fewer (found-p .before .before .loop .inv) low (c .before .before .shared-slice-known2 .given (found-p .lowest .result) .fits))
 
 loop-again : tie.Need-loop-again Inv-loop μ-loop
 loop-again c =
-    let found-p = c .before .before .before .before in
-    rw (c .without2 .ensures, c .before .with2 .ensures, c .before .before .without .ensures)
-    (turns (found-p .before .before .loop .inv) (found-p .lowest .ensures)
-    (c .before .before .before .shared-slice-known2 .given (found-p .lowest .result) .fits))
+    let found-p = c .before .before .before in
+    let low = found-p .lowest .ensures in
+    rw (c .but-lowest .ensures .rest (found-p .lowest .result) low, c .before .without .ensures)
+    (turns (found-p .before .before .loop .inv) low (c .before .before .shared-slice-known2 .given (found-p .lowest .result) .fits))
 
 returns : tie.Need-returns Inv-loop μ-loop
 returns c = ends (rw (c .loop-test .left) at (c .before .loop .inv))
@@ -72,8 +69,7 @@ grow-spec =
     mul-without
     shared-slice-read-without
     without-requires
-    with-requires-2
-    without-requires-2
+    but-lowest-requires
     loop-less
     loop-again
     returns)

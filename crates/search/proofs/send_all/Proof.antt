@@ -2,53 +2,58 @@
 -- The invariant: what is stored and the run from here make the whole run (laws of Sends). The measure is how many carriers are out.
 use mathlib.Core.Path.{_∙_}
 use native.Mathlib.Omega.{arith}
+use lib.ListN.{length}
 use denote.Ref.{now}
 use borrow.Author.Needs.{needs}
 use Rattle.search.specs.declared.Goes.the-variants.{Nobody}
-use Rattle.search.proofs.Sends.{Underway, underway-starts, underway-done, underway-nobody, sought-at, OneGoes, goes-inside, goes-few, goes-entry, goes-more}
+use Rattle.search.proofs.Sends.{Underway, underway-starts, underway-seeks, underway-done, underway-nobody, sought-at, OneGoes, goes-inside, goes-few, goes-blocks, goes-entry, goes-more}
 use Rattle.search.proofs.send_all.Statement.{statement}
 use Rattle.search.proofs.send_all.Tie as tie
 
 abbrev Inv-loop : tie.InvT-loop
-Inv-loop home zones ends first after order count words₀ froms₀ position₀ plan₀ left₀ at₀ words froms position plan left at =
-    Underway home zones ends first after order count words₀ froms₀ position₀ plan₀ words froms position plan left at
+Inv-loop home ends follows order count words₀ froms₀ free₀ position₀ plan₀ left₀ at₀ words froms free position plan left at =
+    Underway home (length position₀) ends follows order count words₀ froms₀ free₀ position₀ plan₀ words froms free position plan left at
 
 abbrev μ-loop : tie.MeasureT-loop
-μ-loop home zones ends first after order count words₀ froms₀ position₀ plan₀ left₀ at₀ words froms position plan left at = left
+μ-loop home ends follows order count words₀ froms₀ free₀ position₀ plan₀ left₀ at₀ words froms free position plan left at = left
 
 -- the function's entry, from the head of the loop
 abbrev start : tie.At-loop Inv-loop μ-loop → tie.Start Inv-loop μ-loop
 start h = h .before .before .before .before .before .before .before .before .before
+
+-- the head of the loop, from the call of the search
+abbrev head : tie.After-first-to-go Inv-loop μ-loop → tie.At-loop Inv-loop μ-loop
+head f = f .before .before .before .before .before .before
 
 -- where a carrier that goes is known
 module _ (g : tie.After-goes Inv-loop μ-loop) where
   abbrev call : tie.After-first-to-go Inv-loop μ-loop
   call = g .before .before .before .before .before .before
 
-  abbrev head : tie.At-loop Inv-loop μ-loop
-  head = call .before .before .before .before .before
+  abbrev h : tie.At-loop Inv-loop μ-loop
+  h = head call
 
   abbrev a : tie.Start Inv-loop μ-loop
-  a = start head
+  a = start h
 
   goes :
-      OneGoes (a .args .home) (a .args .zones) (now (a .args .ends)) (now (a .args .first)) (now (a .args .after)) (now (a .args .order)) (a .args .count)
-      (now (a .args .words)) (now (a .args .froms)) (now (a .args .position)) (now (a .args .plan))
-      (head .loop .words) (head .loop .froms) (head .loop .position) (head .loop .plan) (head .loop .left) (head .loop .at)
-      (call .first-to-go .last .1 .1 .1 .1 .1 .1 .1 .1 .0) (call .first-to-go .last .1 .1 .1 .1 .1 .1 .1 .1 .1 .0) (g .goes .given .0 .0) (g .goes .given .0 .1 .0)
+      OneGoes (a .args .home) (length (now (a .args .position))) (now (a .args .ends)) (now (a .args .follows)) (now (a .args .order)) (a .args .count)
+      (now (a .args .words)) (now (a .args .froms)) (now (a .args .free)) (now (a .args .position)) (now (a .args .plan))
+      (h .loop .words) (h .loop .froms) (h .loop .free) (h .loop .position) (h .loop .plan) (h .loop .left) (h .loop .at)
+      (call .first-to-go .last .1 .1 .1 .1 .1 .1 .1 .0) (call .first-to-go .last .1 .1 .1 .1 .1 .1 .1 .1 .0) (g .goes .given .0 .0) (g .goes .given .0 .1 .0)
   goes = record {
-    underway = head .loop .inv;
-    some-left = call .before .before .before .before .loop-test .taken;
-    same-words = call .first-to-go .kept .1 .1 .1 .1 .1 .1 .1 .1 .0;
-    same-froms = call .first-to-go .kept .1 .1 .1 .1 .1 .1 .1 .1 .1 .0;
-    sought = sought-at _ (g .goes .given .1) (call .first-to-go .ensures);
+    underway = h .loop .inv;
+    some-left = call .before .before .before .before .before .loop-test .taken;
+    same-words = call .first-to-go .kept .1 .1 .1 .1 .1 .1 .1 .0;
+    same-froms = call .first-to-go .kept .1 .1 .1 .1 .1 .1 .1 .1 .0;
+    sought = sought-at _ (g .goes .given .1) (h .loop .inv .seeking .tables .each) (call .first-to-go .ensures);
   }
 
 loop-holds : tie.Need-loop-holds Inv-loop μ-loop
 loop-holds c = underway-starts (c .before .before .before .before .before .before .before .before .args .home) (c .before .before .before .before .before .before .before .before .pre)
 
 first-to-go-requires : tie.Need-first-to-go-requires Inv-loop μ-loop
-first-to-go-requires c κs = c .before .before .before .before .loop .inv .seeking
+first-to-go-requires c κs = underway-seeks (c .before .before .before .before .before .loop .inv)
 
 enum-known-goes : tie.Need-enum-known-goes Inv-loop μ-loop
 enum-known-goes c = search needs
@@ -57,19 +62,24 @@ enum-told : tie.Need-enum-told Inv-loop μ-loop
 enum-told c = search needs
 
 same-length : tie.Need-same-length Inv-loop μ-loop
-same-length c = c .before .before .before .before .before .before .first-to-go .kept .1 .1 .1 .1 .1 .1 .1 .1 .0 ∙ c .before .before .before .before .before .before .before .before .before .before .before .loop .inv .same-words
+same-length c = c .before .before .before .before .before .before .first-to-go .kept .1 .1 .1 .1 .1 .1 .1 .0 ∙ head (c .before .before .before .before .before .before) .loop .inv .same-words
 
 same-length-2 : tie.Need-same-length-2 Inv-loop μ-loop
-same-length-2 c = c .before .before .before .before .before .before .first-to-go .kept .1 .1 .1 .1 .1 .1 .1 .1 .1 .0 ∙ c .before .before .before .before .before .before .before .before .before .before .before .loop .inv .same-froms
+same-length-2 c = c .before .before .before .before .before .before .first-to-go .kept .1 .1 .1 .1 .1 .1 .1 .1 .0 ∙ head (c .before .before .before .before .before .before) .loop .inv .same-froms
 
 same-length-3 : tie.Need-same-length-3 Inv-loop μ-loop
-same-length-3 c = c .before .before .before .before .before .before .before .before .before .before .before .loop .inv .same-position
+same-length-3 c = head (c .before .before .before .before .before .before) .loop .inv .same-free
 
 same-length-4 : tie.Need-same-length-4 Inv-loop μ-loop
-same-length-4 c = c .before .before .before .before .before .before .before .before .before .before .before .loop .inv .same-plan
+same-length-4 c = head (c .before .before .before .before .before .before) .loop .inv .same-position
+
+same-length-5 : tie.Need-same-length-5 Inv-loop μ-loop
+same-length-5 c = head (c .before .before .before .before .before .before) .loop .inv .same-plan
 
 returns : tie.Need-returns Inv-loop μ-loop
-returns c = underway-nobody (c .before .before .before .before .before .before .before .before .before .before .before .loop .inv) (sought-at Nobody (c .enum-told .given .1) (c .before .before .before .before .before .before .first-to-go .ensures))
+returns c =
+    underway-nobody (head (c .before .before .before .before .before .before) .loop .inv)
+    (sought-at Nobody (c .enum-told .given .1) (head (c .before .before .before .before .before .before) .loop .inv .seeking .tables .each) (c .before .before .before .before .before .before .first-to-go .ensures))
 
 mul-write-entry : tie.Need-mul-write-entry Inv-loop μ-loop
 mul-write-entry c = omega (arith, goes-few (goes (c .before)))
@@ -86,26 +96,32 @@ mul-position c = omega (arith, goes-few (goes (c .before .before .before .before
 slice-write-position : tie.Need-slice-write-position Inv-loop μ-loop
 slice-write-position c = goes-inside (goes (c .before .before .before .before .before .before .before .before))
 
+add-zone-requires : tie.Need-add-zone-requires Inv-loop μ-loop
+add-zone-requires c κs = (goes-few (goes (c .before .before .before .before .before .before .before .before .before)), goes-blocks (goes (c .before .before .before .before .before .before .before .before .before)))
+
 sub-left : tie.Need-sub-left Inv-loop μ-loop
-sub-left c = goes (c .before .before .before .before .before .before .before .before) .some-left
+sub-left c = goes (c .before .before .before .before .before .before .before .before .before .before .before .before) .some-left
 
 loop-less : tie.Need-loop-less Inv-loop μ-loop
-loop-less c = omega (arith, goes (c .before .before .before .before .before .before .before .before) .some-left)
+loop-less c = omega (arith, goes (c .before .before .before .before .before .before .before .before .before .before .before .before) .some-left)
 
 loop-again : tie.Need-loop-again Inv-loop μ-loop
-loop-again c = goes-more (goes (c .before .before .before .before .before .before .before .before)) (c .before .before .write-entry .ensures) (c .before .before .write-entry .kept .1 .1 .1 .1 .0)
-
-same-length-5 : tie.Need-same-length-5 Inv-loop μ-loop
-same-length-5 c = c .before .loop .inv .same-words
+loop-again c = goes-more (goes (c .before .before .before .before .before .before .before .before .before .before .before .before)) (c .before .before .before .before .before .before .write-entry .ensures) (c .before .before .before .before .before .before .write-entry .kept .1 .1 .1 .1 .0) (c .before .before .add-zone .ensures) (c .before .before .add-zone .kept .1 .0)
 
 same-length-6 : tie.Need-same-length-6 Inv-loop μ-loop
-same-length-6 c = c .before .loop .inv .same-froms
+same-length-6 c = c .before .loop .inv .same-words
 
 same-length-7 : tie.Need-same-length-7 Inv-loop μ-loop
-same-length-7 c = c .before .loop .inv .same-position
+same-length-7 c = c .before .loop .inv .same-froms
 
 same-length-8 : tie.Need-same-length-8 Inv-loop μ-loop
-same-length-8 c = c .before .loop .inv .same-plan
+same-length-8 c = c .before .loop .inv .same-free
+
+same-length-9 : tie.Need-same-length-9 Inv-loop μ-loop
+same-length-9 c = c .before .loop .inv .same-position
+
+same-length-10 : tie.Need-same-length-10 Inv-loop μ-loop
+same-length-10 c = c .before .loop .inv .same-plan
 
 returns-2 : tie.Need-returns-2 Inv-loop μ-loop
 returns-2 c = underway-done (c .before .loop .inv) (c .loop-test .left)
@@ -124,17 +140,20 @@ send-all-spec =
     same-length-2
     same-length-3
     same-length-4
+    same-length-5
     returns
     mul-write-entry
     slice-read-write-entry
     write-entry-requires
     mul-position
     slice-write-position
+    add-zone-requires
     sub-left
     loop-less
     loop-again
-    same-length-5
     same-length-6
     same-length-7
     same-length-8
+    same-length-9
+    same-length-10
     returns-2)

@@ -14,9 +14,9 @@ use borrow.Author.Tests.{le-leb, lt-leb, leb-true, leb-false}
 use Rattle.model.specs.Lists.{below, consIf, count, any}
 use Rattle.model.specs.Reading.{underTwo, trackSaid, zonesSaid, homeSaid, pointsSaid, endSaid}
 use Rattle.model.proofs.ListLaws.{count-append, below-any, below-any-false}
-use Rattle.points.specs.Sets.{hasBit, less, Lowest}
-use Rattle.points.proofs.BitLaws.{bit-none, bit-all, bit-or, bit-and, bit-alone, bit-with, bit-less, alone-word, less-word, less-in, point-below}
-use Rattle.points.proofs.LowestLaws.{trailing-lowest}
+use Rattle.bits.specs.Sets.{hasBit, less, Lowest}
+use Rattle.bits.proofs.BitLaws.{bit-none, bit-all, bit-or, bit-and, bit-alone, bit-with, bit-less, alone-word, less-word, less-in, bit-below}
+use Rattle.bits.proofs.LowestLaws.{trailing-lowest}
 use Rattle.board.specs.Inner.{ByteAt, startsAt, Inside, Doubled}
 use Rattle.board.proofs.Filling.{map-next, first-end, second-end}
 use Rattle.board.proofs.Rows.{ltb-is}
@@ -131,7 +131,7 @@ module _ {b : List ℕ} {p h twice : ℕ} (I : Inside b) (D : Doubled b twice) (
     where
       at : (q : ℕ) → Lowest underTwoSet q → any (underTwo b) (below (pointsSaid b)) ≡ true
       at q low =
-          let l : q < p = point-below p (2 ^ p - 1) q (ones-lt p) (less-in (2 ^ p - 1) (bitOr twice (2 ^ h)) q all-word rest-word (low .there)) in
+          let l : q < p = bit-below p (2 ^ p - 1) q (ones-lt p) (less-in (2 ^ p - 1) (bitOr twice (2 ^ h)) q all-word rest-word (low .there)) in
           below-any (underTwo b) (pointsSaid b) q (let s : p ≡ pointsSaid b = P .is in let k : q < pointsSaid b = omega arith in k) (under-two-bit q l ∙ low .there)
 
   -- the code's set is that one

@@ -18,12 +18,13 @@ use Rattle.model.proofs.ListLaws.{all-below, below-all}
 use Rattle.model.proofs.WordLaws.{rev-below}
 use Rattle.model.proofs.LabelLaws.{parts-linked, linked-parts}
 use Rattle.model.proofs.ReadingLaws.{in-range, start-in, start-said}
-use Rattle.points.specs.Sets.{hasBit, Ways, Reach, Over, Grown}
-use Rattle.points.specs.Sets.Reach.{here as stays, on}
+use Rattle.bits.specs.Sets.{hasBit}
+use Rattle.points.specs.Ways.{Ways, Reach, Over, Grown}
+use Rattle.points.specs.Ways.Reach.{here as stays, on}
 use Rattle.points.proofs.WayLaws.{added}
 use Rattle.points.proofs.OverLaws.{over-none, over-added, over-ways, over-same}
 use Rattle.points.proofs.LinkedLaws.{reach-linked, linked-reach}
-use Rattle.points.proofs.FullLaws.{size-reached, reached-size}
+use Rattle.points.proofs.ReachedLaws.{size-reached, reached-size}
 use Rattle.board.proofs.Filling.{first-end, second-end}
 use Rattle.board.specs.Inner.{ByteAt, Inside, WaysOf}
 

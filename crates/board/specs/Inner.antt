@@ -9,7 +9,8 @@ use lib.Dec.{leb, eqb}
 use Rattle.model.specs.Lists.{below, any, count}
 use Rattle.model.specs.Track.{rev}
 use Rattle.model.specs.Reading.{byte, endSaid, pointsSaid, homeSaid, zonesSaid, badZone, repeated, underTwo, apart}
-use Rattle.points.specs.Sets.{hasBit, Over}
+use Rattle.bits.specs.Sets.{hasBit}
+use Rattle.points.specs.Ways.{Over}
 
 -- a byte that was read
 pub record ByteAt (b : List ℕ) (i r : ℕ) : Type 0 where

@@ -28,9 +28,9 @@ fn add_ways(bytes: &[u8], ways: &mut [u64]) -> u64
         let a = byte(bytes, 4 * z + 6);
         let b = byte(bytes, 4 * z + 7);
         twice = add_second(once, twice, a);
-        once = points::with(once, a);
+        once = bits::with(once, a);
         twice = add_second(once, twice, b);
-        once = points::with(once, b);
+        once = bits::with(once, b);
         points::add_way(ways, a, b);
         points::add_way(ways, b, a);
         z += 1;
@@ -48,12 +48,12 @@ pub fn refusal(bytes: &[u8]) -> u32
     let home = byte(bytes, 4);
     let mut ways = [0u64; 64];
     let twice = add_ways(bytes, &mut ways);
-    let under_two = points::without(points::all(points), points::with(twice, home));
+    let under_two = bits::without(bits::all(points), bits::with(twice, home));
     if under_two != 0 {
         return 8;
     }
     let reached = points::grow(&ways, home);
-    if points::size(reached) != points {
+    if bits::size(reached) != points {
         return 9;
     }
     0

@@ -44,7 +44,7 @@ module _ {t : Track} {p q : Position} {list : List ℕ} (collapsed : Collapsed t
   pub collapse-listable : Ready t p → Listable q list
   collapse-listable ready =
       listable ready (subst (λ (s : Position). Within s p) (sym (collapsed .rest)) (record { as-long = length-left (t .ends) (collapsed .set) p; kept = left-cases (t .ends) (collapsed .set) p }))
-      (omega (arith, ap length (collapsed .carriers), ap length (collapse-same (ready .laid)), named-most t p (ready .laid)))
+      (omega (arith, ap length (collapsed .carriers), ap length (collapse-same (ready .parsed .laid)), named-most t p (ready .parsed .laid)))
 
   -- and their list is the collapse's answer
   pub collapse-given : {count : ℕ} {list′ : List ℕ} → Listed q list count list′ → CollapseGiven (collapseIn t p (length list)) list 0 count list′
@@ -59,7 +59,7 @@ module _ {t : Track} {p q : Position} {list : List ℕ} (collapsed : Collapsed t
 -- where the list is long enough, what was written is the key's list
 module _ {t : Track} {p : Position} (ready : Ready t p) {list list′ : List ℕ} {number count : ℕ} (given : CollapseGiven (collapseIn t p (length list)) list number count list′) (room : length (outs p) ≤ length list) where
   answer : collapseIn t p (length list) .list ≡ named t p
-  answer = ap (λ (a : CollapseAnswer). a .list) (collapse-long t p (length list) room) ∙ collapse-same (ready .laid)
+  answer = ap (λ (a : CollapseAnswer). a .list) (collapse-long t p (length list) room) ∙ collapse-same (ready .parsed .laid)
 
   pub named-counted : count ≡ length (named t p)
   named-counted = given .count-is ∙ ap length answer
@@ -68,4 +68,4 @@ module _ {t : Track} {p : Position} (ready : Ready t p) {list list′ : List ℕ
   named-written = ap (take count) (given .list-is) ∙ take-at (collapseIn t p (length list) .list) _ count (sym (given .count-is)) ∙ answer
 
   pub named-fits : count ≤ length list
-  named-fits = omega (arith, named-counted, named-most t p (ready .laid))
+  named-fits = omega (arith, named-counted, named-most t p (ready .parsed .laid))

@@ -70,9 +70,9 @@ promised b {list} {list′} {number} {count} none ready given =
       given = subst (λ (a : CollapseAnswer). CollapseGiven a list number count list′) (sym (collapse-read-board b (length list) none)) given;
       same = λ zero planRoom listRoom drawn. written zero ∙ sym (ap (λ (k : KeyAnswer). k .list) (key-drawn b planRoom listRoom drawn));
       same-count = λ zero planRoom listRoom drawn. named-counted ready given (long zero) ∙ sym (ap (λ (k : KeyAnswer). length (k .list)) (key-drawn b planRoom listRoom drawn));
-      blocked = λ zero. of-named (λ (l : List ℕ). (c : ℕ) → List·Memᴰ c l ↔ Blocked (trackSaid b) (positionSaid b) c) (named-iff-blocked (trackSaid b) (positionSaid b) (ready .laid)) zero;
-      ascending = of-named Ascending (named-ascending (trackSaid b) (positionSaid b) (ready .laid));
-      named = of-named (NamedRight (trackSaid b) (positionSaid b)) (named-right (trackSaid b) (positionSaid b) (ready .laid));
+      blocked = λ zero. of-named (λ (l : List ℕ). (c : ℕ) → List·Memᴰ c l ↔ Blocked (trackSaid b) (positionSaid b) c) (named-iff-blocked (trackSaid b) (positionSaid b) (ready .parsed .laid)) zero;
+      ascending = of-named Ascending (named-ascending (trackSaid b) (positionSaid b) (ready .parsed .laid));
+      named = of-named (NamedRight (trackSaid b) (positionSaid b)) (named-right (trackSaid b) (positionSaid b) (ready .parsed .laid));
     }
   where
     long : number ≡ 0 → length (outs (positionSaid b)) ≤ length list

@@ -12,7 +12,7 @@ use Rattle.order.proofs.Within.{Within}
 use Rattle.order.proofs.Named.{last-within}
 use Rattle.order.proofs.Sizes.{named-most}
 use Rattle.carriers.specs.Numbers.{Listable, Listed}
-use Rattle.search.specs.Sending as sending
+use Rattle.search.specs.Sending.{Sendable, SentHome}
 use Rattle.exam.specs.Parsed.{Ready, KeyGiven}
 use Rattle.exam.proofs.KeyLaws.{key-10, key-11, key-for}
 use Rattle.exam.proofs.ReadyLaws.{listable}
@@ -37,26 +37,19 @@ pub enough : {zones : ℕ} {p plan list : List ℕ} {out : ℕ} → out ≡ leng
 enough {zones} {p} {plan} counted h k = record { for-plan = subst (λ (n : ℕ). n * (2 + 2 * zones) ≤ length plan) counted h; for-list = omega arith }
 
 module _ {points home zones : ℕ} {ends p plan list : List ℕ} (room : Enough zones p plan list) where
-  pub sendable : Ready (trackOf points home zones ends) p → sending.Ready points home zones ends p plan
+  pub sendable : Ready (trackOf points home zones ends) p → Sendable points home zones ends p plan
   sendable ready =
-      record {
-        laid = ready .laid;
-        points-most = ready .points-most;
-        zones-most = ready .zones-most;
-        ends-count = ready .ends-count;
-        numbers = λ z. omega (arith, ready .numbers z);
-        room = room .for-plan;
-      }
+      record { parsed = ready .parsed; numbers = λ z. omega (arith, ready .numbers z); room = room .for-plan }
 
-  module _ {p′ plan′ : List ℕ} {words : ℕ} (sent : sending.SentHome points home zones ends p plan p′ plan′ words) where
+  module _ {p′ plan′ : List ℕ} {words : ℕ} (sent : SentHome points home zones ends p plan p′ plan′ words) where
     outs-last : outs p′ ≡ named (trackOf points home zones ends) p
     unfolding named
     outs-last = ap outs (sent .last)
 
     pub last-listable : Ready (trackOf points home zones ends) p → Listable p′ list
     last-listable ready =
-        listable ready (subst (λ (s : Position). Within s p) (sym (sent .last)) (last-within (trackOf points home zones ends) p (ready .laid)))
-        (omega (arith, ap length outs-last, named-most (trackOf points home zones ends) p (ready .laid), room .for-list))
+        listable ready (subst (λ (s : Position). Within s p) (sym (sent .last)) (last-within (trackOf points home zones ends) p (ready .parsed .laid)))
+        (omega (arith, ap length outs-last, named-most (trackOf points home zones ends) p (ready .parsed .laid), room .for-list))
 
     pub given-key : {verdict count : ℕ} {list′ : List ℕ} → Listed p′ list count list′ → ((blocked : List ℕ) → length blocked ≡ count → verdict ≡ verdictOf blocked) → KeyGiven (keyIn (trackOf points home zones ends) p (length plan) (length list)) plan list verdict words count plan′ list′
     unfolding keyFor

@@ -50,8 +50,8 @@ unfolding keyFor
 promised b plan list {plan′} {list′} {verdict} {words} {count} none ready given =
     record {
       given = given;
-      right = λ d. right-written (trackSaid b) (positionSaid b) (drawn d) (key-right (trackSaid b) (positionSaid b) (ready .laid));
-      named = λ d. named-written (trackSaid b) (positionSaid b) (drawn d) (named-right (trackSaid b) (positionSaid b) (ready .laid));
+      right = λ d. right-written (trackSaid b) (positionSaid b) (drawn d) (key-right (trackSaid b) (positionSaid b) (ready .parsed .laid));
+      named = λ d. named-written (trackSaid b) (positionSaid b) (drawn d) (named-right (trackSaid b) (positionSaid b) (ready .parsed .laid));
     }
   where
     drawn : Drawn b verdict → KeyGiven (keyFor (trackSaid b) (positionSaid b)) plan list verdict words count plan′ list′

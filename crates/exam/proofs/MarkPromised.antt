@@ -41,5 +41,5 @@ mark-promised {b} {sheet} {r} {number} small s e =
     e ∙ ap (λ (t : Track). markFor t (positionRead r) sheet) (track-read s) ∙ ap (λ (p : Position). markFor (trackSaid b) p sheet) (s .position) in
     record {
       number-is = m ∙ sym (mark-read-board b sheet (s .none));
-      right = λ none. subst (λ (n : ℕ). (n ≡ 0) ↔ Right (trackSaid b) (positionSaid b) sheet) (sym m) (marked-right (trackSaid b) (positionSaid b) (ready-said b small none .laid) sheet);
+      right = λ none. subst (λ (n : ℕ). (n ≡ 0) ↔ Right (trackSaid b) (positionSaid b) sheet) (sym m) (marked-right (trackSaid b) (positionSaid b) (ready-said b small none .parsed .laid) sheet);
     }

@@ -26,7 +26,7 @@ number-read b e = ap (λ (s : Board). s .number) e ∙ given-number b
 pub ready-said : (b : List ℕ) → Bytes b → refusal b ≡ 0 → Ready (trackSaid b) (positionSaid b)
 ready-said b small none =
     let a : Accepted (trackSaid b) (positionSaid b) = accepted b small none in
-    record { laid = a .laid; points-most = a .points-most; zones-most = a .zones-most; ends-count = a .ends-count; numbers = a .numbers }
+    record { parsed = record { laid = a .laid; points-most = a .points-most; zones-most = a .zones-most; ends-count = a .ends-count }; numbers = a .numbers }
 
 abbrev pub trackRead : Board → Track
 trackRead r = trackOf (r .points) (r .home) (r .zones) (take (2 * r .zones) (r .ends))

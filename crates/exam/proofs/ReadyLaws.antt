@@ -25,18 +25,18 @@ outs-most p =
 
 module _ {t : Track} {p : Position} (ready : Ready t p) where
   pub few-out : length (outs p) ≤ 96
-  few-out = omega (arith, outs-most p, ready .laid .each, ready .zones-most)
+  few-out = omega (arith, outs-most p, ready .parsed .laid .each, ready .parsed .zones-most)
 
   -- the room that row 10 asks for is a small number
   pub room-small : {out : ℕ} → out ≡ length (outs p) → out * (2 + 2 * t .zones) ≤ 18624
   room-small {out} counted =
       le-trans (mul-le-mul-right {m = out} {n = 96} (2 + 2 * t .zones) (omega (arith, few-out)))
-      (mul-le-mul-left {m = 2 + 2 * t .zones} {n = 194} 96 (omega (arith, ready .zones-most)))
+      (mul-le-mul-left {m = 2 + 2 * t .zones} {n = 194} 96 (omega (arith, ready .parsed .zones-most)))
 
   pub listable : {q : Position} {list : List ℕ} → Within q p → length (outs q) ≤ length list → Listable q list
   listable {q} within room =
       record {
-        zones-most = omega (arith, within .as-long, ready .laid .each, ready .zones-most);
+        zones-most = omega (arith, within .as-long, ready .parsed .laid .each, ready .parsed .zones-most);
         numbers = λ z. ⊎-elim (λ e. omega (arith, ready .numbers z)) (λ e. let f : at q z ≡ 0 = e in omega arith) (within .kept z);
         room = room;
       }

@@ -1,21 +1,18 @@
 -- The operations on a track and a position, once the bytes are read: what they are given, and what they promise.
-use Prim.Native.Nat.{ℕ, _*_, _≤_, _<_}
+use Prim.Native.Nat.{ℕ, _<_}
 use mathlib.Core.List.{List}
 use mathlib.Core.Path.{_≡_}
 use lib.ListN.{length}
 use Rattle.model.specs.Lists.{overwritten}
 use Rattle.model.specs.Track.{Track}
 use Rattle.model.specs.Position.{Position, at}
-use Rattle.model.specs.Accepted.{Laid}
+use Rattle.model.specs.Accepted.{Parsed}
 use Rattle.rules.specs.Collapse.{CollapseAnswer}
 use Rattle.rules.specs.Key.{KeyAnswer}
 
--- a position laid on a track of at most 64 points and 96 zones, with two ends for each zone, and carriers 1 to 255
+-- what `Parsed` says, and carriers 1 to 255
 pub record Ready (t : Track) (p : Position) : Type 0 where
-  pub laid : Laid t p
-  pub points-most : t .points ≤ 64
-  pub zones-most : t .zones ≤ 96
-  pub ends-count : length (t .ends) ≡ 2 * t .zones
+  pub parsed : Parsed t p
   pub numbers : (z : ℕ) → at p z < 512
 
 -- a result and the list at exit are a collapse's answer

@@ -46,17 +46,17 @@ module _ (b : List ℕ) (small : Bytes b) where
   unfolding keyFor
   plan-few none =
       let ready = ready-said b small none in
-      le-trans (plan-room (trackSaid b) (positionSaid b) (ready .laid)) (room-small ready refl)
+      le-trans (plan-room (trackSaid b) (positionSaid b) (ready .parsed .laid)) (room-small ready refl)
 
   named-few : refusal b ≡ 0 → length (keyFor (trackSaid b) (positionSaid b) .list) ≤ 96
   unfolding keyFor
   named-few none =
       let ready = ready-said b small none in
-      le-trans (named-most (trackSaid b) (positionSaid b) (ready .laid)) (few-out ready)
+      le-trans (named-most (trackSaid b) (positionSaid b) (ready .parsed .laid)) (few-out ready)
 
   left-few : refusal b ≡ 0 → length (left (trackSaid b) (positionSaid b)) ≤ 96
   unfolding keyFor
-  left-few none = subst (λ (l : List ℕ). length l ≤ 96) (sym (collapse-same (ready-said b small none .laid))) (named-few none)
+  left-few none = subst (λ (l : List ℕ). length l ≤ 96) (sym (collapse-same (ready-said b small none .parsed .laid))) (named-few none)
 
   pub few-words : (planRoom listRoom : ℕ) → length (keyOf b planRoom listRoom .plan) ≤ 18624
   few-words = of-key b (λ a. length (a .plan) ≤ 18624) (λ n. omega arith) plan-few

@@ -15,7 +15,7 @@ use Rattle.model.proofs.BoolLaws.{and-left, or-left, or-right}
 use Rattle.model.proofs.PositionLaws.{retire-set}
 use Rattle.rules.specs.Sheet.{stillOut, follow, byRules, endsHome, numberOf, markEntry}
 use Rattle.rules.proofs.OutTested.{stands-out}
-use Rattle.marker.specs.Marked.{Ready, standsAt, routeNumber, entryNumber, EntryMarked}
+use Rattle.marker.specs.Marked.{Markable, standsAt, routeNumber, entryNumber, EntryMarked}
 use Rattle.marker.proofs.StandingLaws.{standing-word, standing-stands}
 
 -- the entry at a place of the sheet
@@ -146,14 +146,14 @@ module _ {home zones : ℕ} {ends : List ℕ} {p : Position} {sheet : List ℕ} 
         → ((points : ℕ) → r ≡ routeNumber (trackOf points home zones ends) p (carrier sheet place) (standing sheet place) (others sheet place)) → (r ≡ 0 → ⊥) → EntryMarked home zones ends p sheet place r p
     route-fails {s} each g m e n = fails (λ points. route-decides (trackOf points home zones ends) p sheet place h each (sym g ∙ not-false s m) ∙ sym (e points)) n
 
-    pub route-passes : {s : Bool} {r : ℕ} → Ready zones ends p → s ≡ standsAt zones p (carrier sheet place) (standing sheet place) → not s ≡ false
+    pub route-passes : {s : Bool} {r : ℕ} → Markable zones ends p → s ≡ standsAt zones p (carrier sheet place) (standing sheet place) → not s ≡ false
         → ((points : ℕ) → r ≡ routeNumber (trackOf points home zones ends) p (carrier sheet place) (standing sheet place) (others sheet place)) → r ≡ 0 → EntryMarked home zones ends p sheet place 0 (set p (zoneOf (standing sheet place)) 0)
-    route-passes {s} ready g m e z =
+    route-passes {s} markable g m e z =
         let c = carrier sheet place in
         let w = standing sheet place in
         record {
-          number = λ points. sym z ∙ e points ∙ sym (route-decides (trackOf points home zones ends) p sheet place h (ready .each) (sym g ∙ not-false s m));
-          leaves = sym (retire-set (ready .once) (standing-stands zones p c w (sym g ∙ not-false s m) (ready .each)));
+          number = λ points. sym z ∙ e points ∙ sym (route-decides (trackOf points home zones ends) p sheet place h (markable .each) (sym g ∙ not-false s m));
+          leaves = sym (retire-set (markable .once) (standing-stands zones p c w (sym g ∙ not-false s m) (markable .each)));
         }
 
 -- a standing is a word of the track

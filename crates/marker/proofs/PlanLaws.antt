@@ -15,7 +15,7 @@ use Rattle.model.specs.Position.{Position, retire}
 use Rattle.model.proofs.BoolLaws.{or-false-right}
 use Rattle.model.proofs.PositionLaws.{length-without, once-retire}
 use Rattle.rules.specs.Sheet.{stillOut, byRules, endsHome, markEnd, numberOf, markEntry, markEntries}
-use Rattle.marker.specs.Marked.{Ready, entryNumber, EntryMarked}
+use Rattle.marker.specs.Marked.{Markable, entryNumber, EntryMarked}
 
 too-many : {X : Type 0} (n : ℕ) → suc n ≤ 0 → X
 too-many n h = absurd (omega arith)
@@ -81,12 +81,12 @@ passes-words t p (c ∷ k ∷ ws) h e =
 -- what holds while the plan is marked: the number of the entries from place on is the whole plan's
 pub record Marking (points home zones : ℕ) (ends : List ℕ) (first : Position) (sheet : List ℕ) (from : ℕ) (p : Position) (place : ℕ) : Type 0 where
   pub within : place ≤ length sheet
-  pub ready : Ready zones ends p
+  pub markable : Markable zones ends p
   pub kept : length p ≡ length first
   pub same : markEntries (length (drop place sheet)) (trackOf points home zones ends) p (drop place sheet) ≡ markEntries (length (drop from sheet)) (trackOf points home zones ends) first (drop from sheet)
 
-pub begins : {points home zones : ℕ} {ends : List ℕ} {first : Position} {sheet : List ℕ} {from : ℕ} → Ready zones ends first → from ≤ length sheet → Marking points home zones ends first sheet from first from
-begins r h = record { within = h; ready = r; kept = refl; same = refl }
+pub begins : {points home zones : ℕ} {ends : List ℕ} {first : Position} {sheet : List ℕ} {from : ℕ} → Markable zones ends first → from ≤ length sheet → Marking points home zones ends first sheet from first from
+begins r h = record { within = h; markable = r; kept = refl; same = refl }
 
 module _ {points home zones : ℕ} {ends : List ℕ} {first : Position} {sheet : List ℕ} {from : ℕ} {p : Position} {place : ℕ} (g : Marking points home zones ends first sheet from p place) where
   pub entries-end : {r : ℕ} → length sheet ≤ place → r ≡ markEnd p → r ≡ markEntries (length (drop from sheet)) (trackOf points home zones ends) first (drop from sheet)
@@ -115,8 +115,8 @@ module _ {points home zones : ℕ} {ends : List ℕ} {first : Position} {sheet :
           m .leaves ∙ ap (λ (t : Bool). cond t (retire (getD sheet place 0) p) p) (eq-eqb r 0 z)
           ∙ ap (λ (c : ℕ). retire c p) (sym (getD-drop place sheet 0 0 ∙ ap (λ (n : ℕ). getD sheet n 0) (add-zero place)))
 
-      still-ready : (c : ℕ) → left ≡ retire c p → Ready zones ends left
-      still-ready c e = subst (Ready zones ends) (sym e) (record { each = length-without (eqb c) p ∙ g .ready .each; ends-count = g .ready .ends-count; once = once-retire c p (g .ready .once) })
+      still-markable : (c : ℕ) → left ≡ retire c p → Markable zones ends left
+      still-markable c e = subst (Markable zones ends) (sym e) (record { each = length-without (eqb c) p ∙ g .markable .each; ends-count = g .markable .ends-count; once = once-retire c p (g .markable .once) })
 
       pub entry-passes : Marking points home zones ends first sheet from left (place + 2 + getD sheet (place + 1) 0)
       entry-passes =
@@ -124,7 +124,7 @@ module _ {points home zones : ℕ} {ends : List ℕ} {first : Position} {sheet :
           let c = getD (drop place sheet) 0 0 in
           record {
             within = entry-fits;
-            ready = still-ready c taken-off;
+            markable = still-markable c taken-off;
             kept = ap length taken-off ∙ length-without (eqb c) p ∙ g .kept;
             same =
                 ap₂ (λ (q : Position) (l : List ℕ). markEntries (length l) t q l) taken-off (sym (drop-drop (2 + getD (drop place sheet) 1 0) place sheet ∙ ap (λ (n : ℕ). drop n sheet) next-place))

@@ -1,20 +1,20 @@
 -- A route's number, word by word: a word that breaks a rule gives 32, one that keeps them leaves the number of the words after it.
 -- At the end the last word's leaving point decides. The tests are taken apart by their cases.
-use Prim.Native.Nat.{ℕ, _+_, _*_, _≤_, _<_}
+use Prim.Native.Nat.{ℕ, suc, _+_, _-_, _*_, _≤_, _<_}
 use mathlib.Core.List.{List, [], _∷_}
-use mathlib.Core.Path.{_≡_, refl, sym, ap, _∙_}
+use mathlib.Core.Path.{_≡_, refl, sym, ap, ap₂, _∙_}
 use mathlib.Core.Bool.{Bool, true, false, cond, not, _&&_}
 use native.Mathlib.Numerals.{add-one}
 use native.Mathlib.Omega.{arith}
-use lib.ListN.{length, getD, drop, drop-of-length-le}
+use lib.ListN.{length, getD, take, drop}
 use lib.Seq.{drop-cons}
 use lib.Dec.{ltb, eqb}
 use borrow.Author.Tests.{lt-ltb, le-ltb, eq-eqb, ne-eqb, not-true, not-false}
 use Rattle.model.specs.Track.{Track, trackOf, rev, leave}
-use Rattle.model.specs.Position.{Position, at}
-use Rattle.rules.specs.Key.{steps, leavesHome}
+use Rattle.model.specs.Position.{Position}
+use Rattle.rules.specs.Key.{mayFollow, steps, leavesHome}
 use Rattle.rules.specs.Sheet.{follow, endsHome}
-use Rattle.marker.specs.Marked.{stepsBy, routeNumber}
+use Rattle.marker.specs.Marked.{routeNumber}
 
 module _ (t : Track) (p : Position) (c w : ℕ) where
   -- the number of a route with one word more, by the two tests of that word
@@ -35,37 +35,61 @@ module _ (t : Track) (p : Position) (c w : ℕ) where
       go true = refl
       go false = refl
 
--- what holds while the words are followed: w is the word before place i, and the rest's number is the whole's
-pub record Following (home zones : ℕ) (ends : List ℕ) (p : Position) (c standing : ℕ) (words : List ℕ) (w i : ℕ) : Type 0 where
-  pub within : i ≤ length words
+-- what holds while the words of the sheet are followed: w is the word before place i and leaves at the point, and the rest's number is the whole's
+pub record Following (home zones : ℕ) (ends : List ℕ) (p : Position) (c standing : ℕ) (sheet : List ℕ) (from end w point i : ℕ) : Type 0 where
+  pub within : i ≤ end
+  pub room : end ≤ length sheet
   pub word : w < 2 * zones
-  pub same : (points : ℕ) → routeNumber (trackOf points home zones ends) p c w (drop i words) ≡ routeNumber (trackOf points home zones ends) p c standing words
+  pub leaves : point ≡ getD ends (rev w) 0
+  pub same : (points : ℕ) → routeNumber (trackOf points home zones ends) p c w (take (end - i) (drop i sheet)) ≡ routeNumber (trackOf points home zones ends) p c standing (take (end - from) (drop from sheet))
 
-module _ {home zones : ℕ} {ends : List ℕ} {p : Position} {c standing : ℕ} {words : List ℕ} {w i : ℕ} (g : Following home zones ends p c standing words w i) where
+module _ {home zones : ℕ} {ends : List ℕ} {p : Position} {c standing : ℕ} {sheet : List ℕ} {from end w point i : ℕ} (g : Following home zones ends p c standing sheet from end w point i) where
+  -- the words after the standing
+  abbrev route : List ℕ
+  route = take (end - from) (drop from sheet)
+
+  next-word : i < end → take (end - i) (drop i sheet) ≡ getD sheet i 0 ∷ take (end - (i + 1)) (drop (i + 1) sheet)
+  next-word h =
+      let one : end - i ≡ suc (end - (i + 1)) = omega arith in
+      ap₂ take one (drop-cons sheet i 0 (omega (arith, g .room)) ∙ ap (λ (n : ℕ). getD sheet i 0 ∷ drop n sheet) (sym (add-one i)))
+
   -- the whole's number by the tests of the word at place i
-  follow-next : (a b : Bool) → i < length words → ltb (getD words i 0) (2 * zones) ≡ a → stepsBy ends p c w (getD words i 0) ≡ b → (points : ℕ)
-      → routeNumber (trackOf points home zones ends) p c standing words ≡ cond (a && b) (routeNumber (trackOf points home zones ends) p c (getD words i 0) (drop (i + 1) words)) 32
+  follow-next : (a b : Bool) → i < end → ltb (getD sheet i 0) (2 * zones) ≡ a → steps (trackOf 0 0 0 ends) p c w (getD sheet i 0) ≡ b → (points : ℕ)
+      → routeNumber (trackOf points home zones ends) p c standing route ≡ cond (a && b) (routeNumber (trackOf points home zones ends) p c (getD sheet i 0) (take (end - (i + 1)) (drop (i + 1) sheet))) 32
   follow-next a b h e f points =
       let t = trackOf points home zones ends in
-      sym (g .same points) ∙ ap (routeNumber t p c w) (drop-cons words i 0 h ∙ ap (λ (n : ℕ). getD words i 0 ∷ drop n words) (sym (add-one i)))
-      ∙ number-next t p c w (getD words i 0) (drop (i + 1) words) a b e f
+      sym (g .same points) ∙ ap (routeNumber t p c w) (next-word h)
+      ∙ number-next t p c w (getD sheet i 0) (take (end - (i + 1)) (drop (i + 1) sheet)) a b e f
 
-  follow-last : (a : Bool) → length words ≤ i → eqb (leave (trackOf 0 0 0 ends) w) home ≡ a → (points : ℕ) → routeNumber (trackOf points home zones ends) p c standing words ≡ cond a 0 33
+  follow-last : (a : Bool) → end ≤ i → eqb (leave (trackOf 0 0 0 ends) w) home ≡ a → (points : ℕ) → routeNumber (trackOf points home zones ends) p c standing route ≡ cond a 0 33
   follow-last a h e points =
       let t = trackOf points home zones ends in
-      sym (g .same points) ∙ ap (routeNumber t p c w) (drop-of-length-le words h) ∙ number-last t p c w a e
+      let none : end - i ≡ 0 = omega arith in
+      sym (g .same points) ∙ ap (λ (n : ℕ). routeNumber t p c w (take n (drop i sheet))) none ∙ number-last t p c w a e
 
-  pub no-word : i < length words → 2 * zones ≤ getD words i 0 → (points : ℕ) → 32 ≡ routeNumber (trackOf points home zones ends) p c standing words
-  no-word h e points = sym (follow-next false (stepsBy ends p c w (getD words i 0)) h (le-ltb (getD words i 0) (2 * zones) e) refl points)
+  -- the step rule by the point where w leaves
+  may-go : (v : ℕ) {r : Bool} → r ≡ (eqb (getD ends v 0) point && mayFollow p c w v) → steps (trackOf 0 0 0 ends) p c w v ≡ r
+  may-go v {r} e = sym (e ∙ ap (λ (q : ℕ). eqb (getD ends v 0) q && mayFollow p c w v) (g .leaves))
 
-  pub no-step : {r : Bool} → i < length words → getD words i 0 < 2 * zones → r ≡ stepsBy ends p c w (getD words i 0) → not r ≡ true → (points : ℕ) → 32 ≡ routeNumber (trackOf points home zones ends) p c standing words
-  no-step {r} h e f n points = sym (follow-next true false h (lt-ltb (getD words i 0) (2 * zones) e) (sym f ∙ not-true r n) points)
+  pub no-word : i < end → 2 * zones ≤ getD sheet i 0 → (points : ℕ) → 32 ≡ routeNumber (trackOf points home zones ends) p c standing route
+  no-word h e points = sym (follow-next false (steps (trackOf 0 0 0 ends) p c w (getD sheet i 0)) h (le-ltb (getD sheet i 0) (2 * zones) e) refl points)
 
-  pub step-on : {r : Bool} → i < length words → getD words i 0 < 2 * zones → r ≡ stepsBy ends p c w (getD words i 0) → not r ≡ false → Following home zones ends p c standing words (getD words i 0) (i + 1)
-  step-on {r} h e f n = record { within = omega arith; word = e; same = λ points. sym (follow-next true true h (lt-ltb (getD words i 0) (2 * zones) e) (sym f ∙ not-false r n) points) }
+  pub no-step : {r : Bool} → i < end → getD sheet i 0 < 2 * zones → r ≡ (eqb (getD ends (getD sheet i 0) 0) point && mayFollow p c w (getD sheet i 0)) → not r ≡ true
+      → (points : ℕ) → 32 ≡ routeNumber (trackOf points home zones ends) p c standing route
+  no-step {r} h e f n points = sym (follow-next true false h (lt-ltb (getD sheet i 0) (2 * zones) e) (may-go (getD sheet i 0) f ∙ not-true r n) points)
 
-  pub not-home : {q : ℕ} → length words ≤ i → q ≡ getD ends (rev w) 0 → (q ≡ home → ⊥) → (points : ℕ) → 33 ≡ routeNumber (trackOf points home zones ends) p c standing words
-  not-home h e n points = sym (follow-last false h (ne-eqb (getD ends (rev w) 0) home (λ a. n (e ∙ a))) points)
+  pub step-on : {r : Bool} {q : ℕ} → i < end → getD sheet i 0 < 2 * zones → r ≡ (eqb (getD ends (getD sheet i 0) 0) point && mayFollow p c w (getD sheet i 0)) → not r ≡ false
+      → q ≡ getD ends (rev (getD sheet i 0)) 0 → Following home zones ends p c standing sheet from end (getD sheet i 0) q (i + 1)
+  step-on {r} h e f n l = record {
+    within = omega arith;
+    room = g .room;
+    word = e;
+    leaves = l;
+    same = λ points. sym (follow-next true true h (lt-ltb (getD sheet i 0) (2 * zones) e) (may-go (getD sheet i 0) f ∙ not-false r n) points);
+  }
 
-  pub at-home : {q : ℕ} → length words ≤ i → q ≡ getD ends (rev w) 0 → q ≡ home → (points : ℕ) → 0 ≡ routeNumber (trackOf points home zones ends) p c standing words
-  at-home h e a points = sym (follow-last true h (eq-eqb (getD ends (rev w) 0) home (sym e ∙ a)) points)
+  pub not-home : end ≤ i → (point ≡ home → ⊥) → (points : ℕ) → 33 ≡ routeNumber (trackOf points home zones ends) p c standing route
+  not-home h n points = sym (follow-last false h (ne-eqb (getD ends (rev w) 0) home (λ a. n (g .leaves ∙ a))) points)
+
+  pub at-home : end ≤ i → point ≡ home → (points : ℕ) → 0 ≡ routeNumber (trackOf points home zones ends) p c standing route
+  at-home h a points = sym (follow-last true h (eq-eqb (getD ends (rev w) 0) home (sym (g .leaves) ∙ a)) points)

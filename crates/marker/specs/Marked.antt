@@ -8,11 +8,10 @@ use lib.ListN.{length, getD, drop}
 use lib.Dec.{ltb, eqb}
 use Rattle.model.specs.Track.{Track, trackOf, zoneOf, headingOf}
 use Rattle.model.specs.Position.{Position, at, Once, retire}
-use Rattle.rules.specs.Key.{steps}
 use Rattle.rules.specs.Sheet.{follow, endsHome, markEntry}
 
--- what the marker asks of the track and the position that it is lent: every position laid on a track has it
-pub record Ready (zones : ℕ) (ends : List ℕ) (p : Position) : Type 0 where
+-- what the marker asks of the track and the position that it is lent: every `Parsed` position has it
+pub record Markable (zones : ℕ) (ends : List ℕ) (p : Position) : Type 0 where
   -- one number a zone
   pub each : length p ≡ zones
   -- two ends a zone
@@ -23,10 +22,6 @@ pub record Ready (zones : ℕ) (ends : List ℕ) (p : Position) : Type 0 where
 -- w is the standing of carrier c; 0 is no carrier
 unfoldable pub standsAt : ℕ → Position → ℕ → ℕ → Bool
 standsAt zones p c w = not (eqb c 0) && (ltb w (2 * zones) && eqb (at p (zoneOf w)) (2 * c + headingOf w))
-
--- the step rule, which looks at a track's ends alone
-abbrev pub stepsBy : List ℕ → Position → ℕ → ℕ → ℕ → Bool
-stepsBy ends p c w v = steps (trackOf 0 0 0 ends) p c w v
 
 -- the number of a route, its standing w first: 32 where a word breaks the rules, 33 where the last doesn't leave at home, else 0
 unfoldable pub routeNumber : Track → Position → ℕ → ℕ → List ℕ → ℕ

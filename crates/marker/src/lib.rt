@@ -7,7 +7,7 @@ ghost use Prim.Native.Nat.{_≤_, _<_};
 ghost use lib.ListN.{length, take, drop};
 ghost use Rattle.model.specs.Track.{trackOf};
 ghost use Rattle.rules.specs.Sheet.{markEntries, sameList};
-ghost use Rattle.marker.specs.Marked.{Ready, EntryMarked};
+ghost use Rattle.marker.specs.Marked.{Markable, EntryMarked};
 
 // The entry that starts at `place`: 30 to 33 are tried in that order. Where none is given the carrier is taken off.
 fn mark_entry(
@@ -18,7 +18,7 @@ fn mark_entry(
     sheet: &[u16],
     place: usize,
 ) -> u32
-    requires { ⌜ Ready zones (now ends) (now position) × (place < length (now sheet)) ⌝ }
+    requires { ⌜ Markable zones (now ends) (now position) × (place < length (now sheet)) ⌝ }
     ensures { λ r. ⌜ EntryMarked home zones (now (ends .entry)) (now (position .entry)) (now (sheet .entry)) place r (now (position .exit)) ⌝ }
 {
     let left = sheet.len() - place;
@@ -49,7 +49,9 @@ fn mark_entry(
         position,
         carrier,
         standing,
-        &sheet[from..end],
+        sheet,
+        from,
+        end,
     );
     if number != 0 {
         return number;
@@ -69,7 +71,7 @@ pub fn mark_entries(
     sheet: &[u16],
     from: usize,
 ) -> u32
-    requires { ⌜ Ready zones (now ends) (now position) × (from ≤ length (now sheet)) ⌝ }
+    requires { ⌜ Markable zones (now ends) (now position) × (from ≤ length (now sheet)) ⌝ }
     ensures { λ r. ⌜ r ≡ markEntries (length (drop from (now (sheet .entry)))) (trackOf points home zones (now (ends .entry))) (now (position .entry)) (drop from (now (sheet .entry))) ⌝ }
     ensures { λ r. ⌜ length (now (position .exit)) ≡ length (now (position .entry)) ⌝ }
 {

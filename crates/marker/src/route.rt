@@ -1,9 +1,12 @@
 // A route on a sheet: its first word against the carrier's standing, and each next word against the moving rules.
 ghost use mathlib.Core.Path.{_≡_};
-ghost use Prim.Native.Nat.{ℕ, _*_, _/_, _<_};
-ghost use lib.ListN.{length};
-ghost use Rattle.model.specs.Track.{trackOf, rev};
-ghost use Rattle.marker.specs.Marked.{Ready, standsAt, stepsBy, routeNumber};
+ghost use mathlib.Core.Bool.{_&&_};
+ghost use Prim.Native.Nat.{ℕ, _-_, _*_, _/_, _≤_, _<_};
+ghost use lib.ListN.{length, getD, take, drop};
+ghost use lib.Dec.{eqb};
+ghost use Rattle.model.specs.Track.{trackOf};
+ghost use Rattle.rules.specs.Key.{mayFollow};
+ghost use Rattle.marker.specs.Marked.{Markable, standsAt, routeNumber};
 
 // Whether the word is the carrier's standing. 0 is no carrier.
 pub fn stands(zones: usize, position: &[u32], carrier: u32, w: usize) -> bool
@@ -19,19 +22,26 @@ pub fn stands(zones: usize, position: &[u32], carrier: u32, w: usize) -> bool
     position[w / 2] == 2 * carrier + (w % 2) as u32
 }
 
-// Whether the carrier may go from word w to word v.
-fn may_step(ends: &[usize], position: &[u32], carrier: u32, w: usize, v: usize) -> bool
-    requires { ⌜ (rev w < length (now ends)) × ((v < length (now ends)) × (v / 2 < length (now position))) ⌝ }
-    ensures { λ r. ⌜ r ≡ stepsBy (now (ends .entry)) (now (position .entry)) carrier w v ⌝ }
+// Whether the carrier may go from word w, which leaves at the point, to word v.
+fn may_step(
+    ends: &[usize],
+    position: &[u32],
+    carrier: u32,
+    point: usize,
+    w: usize,
+    v: usize,
+) -> bool
+    requires { ⌜ (v < length (now ends)) × (v / 2 < length (now position)) ⌝ }
+    ensures { λ r. ⌜ r ≡ (eqb (getD (now (ends .entry)) v 0) point && mayFollow (now (position .entry)) carrier w v) ⌝ }
 {
-    if ends[v] != words::leaving(ends, w) {
+    if ends[v] != point {
         return false;
     }
     words::may_follow(position, carrier, w, v)
 }
 
-// A route by its standing and the words after it: 32 where a word breaks the moving rules or is 2 × Z or more, 33 where the last one
-// doesn't leave at home, else 0.
+// A route by its standing and the words after it, which are those of the sheet from `from` to before `end`: 32 where a word breaks the moving
+// rules or is 2 × Z or more, 33 where the last one doesn't leave at home, else 0.
 pub fn mark_route(
     home: usize,
     zones: usize,
@@ -39,25 +49,29 @@ pub fn mark_route(
     position: &[u32],
     carrier: u32,
     standing: usize,
-    words: &[u16],
+    sheet: &[u16],
+    from: usize,
+    end: usize,
 ) -> u32
-    requires { ⌜ Ready zones (now ends) (now position) × (standing < 2 * zones) ⌝ }
-    ensures { λ r. ⌜ ((points : ℕ) → r ≡ routeNumber (trackOf points home zones (now (ends .entry))) (now (position .entry)) carrier standing (now (words .entry))) ⌝ }
+    requires { ⌜ Markable zones (now ends) (now position) × (standing < 2 * zones) × (from ≤ end) × (end ≤ length (now sheet)) ⌝ }
+    ensures { λ r. ⌜ ((points : ℕ) → r ≡ routeNumber (trackOf points home zones (now (ends .entry))) (now (position .entry)) carrier standing (take (end - from) (drop from (now (sheet .entry))))) ⌝ }
 {
     let mut w = standing;
-    let mut i = 0;
-    while i < words.len() {
-        let v = words[i] as usize;
+    let mut point = words::leaving(ends, w);
+    let mut i = from;
+    while i < end {
+        let v = sheet[i] as usize;
         if 2 * zones <= v {
             return 32;
         }
-        if !may_step(ends, position, carrier, w, v) {
+        if !may_step(ends, position, carrier, point, w, v) {
             return 32;
         }
         w = v;
+        point = words::leaving(ends, w);
         i += 1;
     }
-    if words::leaving(ends, w) != home {
+    if point != home {
         return 33;
     }
     0

@@ -245,6 +245,22 @@ module _ {A B : Type 0} where
   foldLeft-keeps P f [] h b p = p
   foldLeft-keeps P f (a ∷ l) h b p = foldLeft-keeps P f l (λ c x m. h c x (List·Memᴰ·tail m)) (f b a) (h b a (List·Memᴰ·head refl) p)
 
+-- the lowest number that passes is the first one kept; the others pass a second test
+pub keep-lowest : (f g : ℕ → Bool) (k n p : ℕ) → k ≤ p → p < k + n → f p ≡ true → g p ≡ false → ((j : ℕ) → k ≤ j → j < p → f j ≡ false) → ((j : ℕ) → k ≤ j → (j ≡ p → ⊥) → f j ≡ g j)
+    → keep f (countUp k n) ≡ p ∷ keep g (countUp k n)
+keep-lowest f g k zero p a b t u least other = absurd (omega arith)
+keep-lowest f g k (suc n) p a b t u least other =
+    go (eq-or-lt-of-le a) (λ l. keep-lowest f g (suc k) n p l (omega arith) t u (λ j c d. least j (omega arith) d) (λ j c d. other j (omega arith) d))
+  where
+    go : (k ≡ p) ⊎ (k < p) → (k < p → keep f (countUp (suc k) n) ≡ p ∷ keep g (countUp (suc k) n)) → keep f (countUp k (suc n)) ≡ p ∷ keep g (countUp k (suc n))
+    go (inl e) ih =
+        ap₂ (λ (s : Bool) (r : List ℕ). consIf s k r) (ap f e ∙ t) (keep-ext f g (countUp (suc k) n) (λ x m. other x (omega (arith, mem-countUp (suc k) n m .0)) (λ q. omega (arith, mem-countUp (suc k) n m .0)))) ∙
+        ap₂ (λ (x : ℕ) (s : Bool). x ∷ consIf s k (keep g (countUp (suc k) n))) e (sym (ap g e ∙ u))
+    go (inr l) ih =
+        let fails : f k ≡ false = least k (omega arith) l in
+        ap₂ (λ (s : Bool) (r : List ℕ). consIf s k r) fails (ih l) ∙
+        ap (λ (s : Bool). p ∷ consIf s k (keep g (countUp (suc k) n))) (sym (sym (other k (omega arith) (λ q. omega arith)) ∙ fails))
+
 -- a test over two lists, one after the other
 pub any-append : (f : ℕ → Bool) (l m : List ℕ) → any f (l ++ m) ≡ (any f l || any f m)
 any-append f [] m = refl

@@ -16,6 +16,13 @@ pub record Laid (t : Track) (p : Position) : Type 0 where
   pub inside : (w : ℕ) → w < 2 * t .zones → start t w < t .points
   pub home-in : t .home < t .points
 
+-- a position laid on a track of at most 64 points and 96 zones, with two ends for each zone
+pub record Parsed (t : Track) (p : Position) : Type 0 where
+  pub laid : Laid t p
+  pub points-most : t .points ≤ 64
+  pub zones-most : t .zones ≤ 96
+  pub ends-count : length (t .ends) ≡ 2 * t .zones
+
 -- every two points are linked over zones
 abbrev pub HangsTogether : Track → Type 0
 HangsTogether t = (p q : ℕ) → p < t .points → q < t .points → Linked t (λ z. Unit {0}) p q

@@ -18,8 +18,9 @@ use Rattle.model.proofs.CountLaws.{count-below-ext}
 use Rattle.model.proofs.LinkLaws.{linked-below}
 use Rattle.model.proofs.LabelLaws.{parts-linked, linked-parts}
 use Rattle.rules.specs.Collapse.{freeParts, loopIn}
-use Rattle.points.specs.Sets.{hasBit, Reach, Grown}
-use Rattle.points.proofs.SizeLaws.{count-within}
+use Rattle.bits.specs.Sets.{hasBit}
+use Rattle.bits.proofs.SizeLaws.{count-within}
+use Rattle.points.specs.Ways.{Reach, Grown}
 use Rattle.points.proofs.LinkedLaws.{reach-linked, linked-reach}
 use Rattle.parts.specs.Ways.{Sized, goesOn, Over}
 use Rattle.parts.proofs.OneWord.{goes-free}

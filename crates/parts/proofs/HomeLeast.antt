@@ -6,7 +6,7 @@ use mathlib.Core.Bool.{true}
 use Rattle.model.specs.Track.{Track}
 use Rattle.model.specs.Position.{Position}
 use Rattle.blocking.proofs.HomeSet.{Closed, HomeSet}
-use Rattle.points.specs.Sets.{hasBit}
+use Rattle.bits.specs.Sets.{hasBit}
 use Rattle.parts.specs.Home.{Home, HomeWord}
 use Rattle.parts.specs.Home.Home.{itself, over-free, over-turning, behind}
 

@@ -17,7 +17,7 @@ use Rattle.model.proofs.BoolLaws.{decided}
 use Rattle.model.proofs.PositionLaws.{laid-numbered}
 use Rattle.rules.specs.Collapse.{left}
 use Rattle.blocking.proofs.AnySet.{left-by-test}
-use Rattle.points.specs.Sets.{hasBit}
+use Rattle.bits.specs.Sets.{hasBit}
 use Rattle.parts.specs.Home.{HomeWord, leavesAt, leftPosition}
 use Rattle.parts.proofs.HomeLeast.{word-least}
 use Rattle.parts.proofs.TakenOff.{leftAt, length-left, at-left}

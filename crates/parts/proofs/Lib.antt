@@ -1,6 +1,7 @@
 pub mod OneWord
 pub mod WordWays
 pub mod FreeParts
+pub mod StartLaws
 pub mod PartByPart
 pub mod HomeReached
 pub mod HomeLeast

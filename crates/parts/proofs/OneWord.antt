@@ -8,7 +8,7 @@ use borrow.Author.Tests.{eq-eqb, ne-eqb}
 use lib.Dec.{eqb}
 use Rattle.model.specs.Track.{zoneOf, headingOf}
 use Rattle.model.specs.Position.{Position, at, isFree}
-use Rattle.points.specs.Sets.{hasBit}
+use Rattle.bits.specs.Sets.{hasBit}
 use Rattle.parts.specs.Ways.{endOf, goesOn}
 
 -- without merging a set goes on over free zones alone

@@ -18,10 +18,11 @@ use Rattle.model.specs.Position.{Position, isFree}
 use Rattle.model.specs.Labels.{label}
 use Rattle.model.proofs.ListLaws.{count-less, below-mem}
 use Rattle.rules.specs.Collapse.{freeParts, loopIn}
-use Rattle.points.specs.Sets.{hasBit, less, Lowest, Grown}
-use Rattle.points.specs.Sets.Reach.{here as there}
-use Rattle.points.proofs.BitLaws.{bit-none, bit-or, bit-less, bit-all, less-word, less-in, less-gone, point-below}
-use Rattle.points.proofs.SizeLaws.{size-count}
+use Rattle.bits.specs.Sets.{hasBit, less, Lowest}
+use Rattle.bits.proofs.BitLaws.{bit-none, bit-or, bit-less, bit-all, less-word, less-in, less-gone, bit-below}
+use Rattle.bits.proofs.SizeLaws.{size-count}
+use Rattle.points.specs.Ways.{Grown}
+use Rattle.points.specs.Ways.Reach.{here as there}
 use Rattle.parts.specs.Ways.{Sized, goesOn, Over, Looped}
 use Rattle.parts.proofs.FreeParts.{part-alike, part-loop}
 
@@ -51,7 +52,7 @@ module _ {points zones : ℕ} {ends : List ℕ} {p : Position} (sized : Sized po
   looping-none = record {
     looped-word = pow-pos 64;
     rest-word = lt-of-lt-of-le (ones-lt points) (pow-mono (sized .few));
-    rest-in = λ q e. point-below points (2 ^ points - 1) q (ones-lt points) e;
+    rest-in = λ q e. bit-below points (2 ^ points - 1) q (ones-lt points) e;
     exact = λ home q h.
         let t = trackOf points home zones ends in
         let ls = freeParts t p in

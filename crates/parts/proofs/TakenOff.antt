@@ -13,7 +13,7 @@ use Rattle.model.specs.Track.{headingOf, rev}
 use Rattle.model.specs.Position.{Position, at}
 use Rattle.model.proofs.ListLaws.{length-below}
 use Rattle.model.proofs.PlaceLaws.{getD-map-below}
-use Rattle.points.specs.Sets.{hasBit}
+use Rattle.bits.specs.Sets.{hasBit}
 use Rattle.points.proofs.OverLaws.{last}
 use Rattle.parts.specs.Home.{leavesAt, leftPosition}
 

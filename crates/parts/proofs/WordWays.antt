@@ -9,11 +9,11 @@ use native.Mathlib.Omega.{arith}
 use lib.ListN.{length, getD, replicate}
 use Rattle.model.specs.Track.{Track, rev}
 use Rattle.model.specs.Position.{Position}
+use Rattle.model.specs.Accepted.{Parsed}
 use Rattle.model.proofs.WordLaws.{rev-below}
-use Rattle.points.specs.Sets.{Ways}
+use Rattle.points.specs.Ways.{Ways}
 use Rattle.points.proofs.WayLaws.{added}
 use Rattle.points.proofs.OverLaws.{over-none as OverLaws·over-none, over-added as OverLaws·over-added, over-skip as OverLaws·over-skip, over-ways as OverLaws·over-ways}
-use Rattle.parts.specs.Home.{Ready}
 use Rattle.parts.specs.Ways.{Sized, endOf, Over}
 
 module _ (ends : List ℕ) (goes : ℕ → Bool) where
@@ -51,11 +51,11 @@ module _ {points zones : ℕ} {ends : List ℕ} {p : Position} (sized : Sized po
   pub sized-each : Sized 64 (length p) ends p
   sized-each = subst (λ (n : ℕ). Sized 64 n ends p) (sym (sized .each)) sized-whole
 
-pub ready-sized : {t : Track} {p : Position} → Ready t p → Sized (t .points) (t .zones) (t .ends) p
-ready-sized {t} ready = record {
-  some = omega (arith, ready .laid .home-in);
-  few = ready .points-most;
-  each = ready .laid .each;
-  ends-count = ready .ends-count;
-  inside = ready .laid .inside;
+pub parsed-sized : {t : Track} {p : Position} → Parsed t p → Sized (t .points) (t .zones) (t .ends) p
+parsed-sized {t} parsed = record {
+  some = omega (arith, parsed .laid .home-in);
+  few = parsed .points-most;
+  each = parsed .laid .each;
+  ends-count = parsed .ends-count;
+  inside = parsed .laid .inside;
 }

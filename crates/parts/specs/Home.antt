@@ -1,6 +1,6 @@
 -- Home's set of points at the end of the collapse, and the position that is left when every carrier that leads into it is taken off.
 -- The proof that both are what document 01 lays out is in proofs/LeftCarriers.
-use Prim.Native.Nat.{ℕ, _*_, _^_, _≤_, _<_}
+use Prim.Native.Nat.{ℕ, _*_, _^_, _<_}
 use mathlib.Core.List.{List, map}
 use mathlib.Core.Path.{_≡_}
 use mathlib.Core.Bool.{true, cond}
@@ -8,16 +8,8 @@ use lib.ListN.{length, getD}
 use Rattle.model.specs.Lists.{below}
 use Rattle.model.specs.Track.{Track, zoneOf, rev, start, leave}
 use Rattle.model.specs.Position.{Position, at, isFree, Stands, outs, standing}
-use Rattle.model.specs.Accepted.{Laid}
 use Rattle.rules.specs.Collapse.{freeParts, turns, left}
-use Rattle.points.specs.Sets.{hasBit}
-
--- a position laid on a track of at most 64 points and 96 zones, with two ends for each zone
-pub record Ready (t : Track) (p : Position) : Type 0 where
-  pub laid : Laid t p
-  pub points-most : t .points ≤ 64
-  pub zones-most : t .zones ≤ 96
-  pub ends-count : length (t .ends) ≡ 2 * t .zones
+use Rattle.bits.specs.Sets.{hasBit}
 
 -- the points of home's part at the end of the collapse: home, what is joined to them over a free zone or a zone whose carrier turns,
 -- and where a carrier starts that leaves at one of them

@@ -1,15 +1,18 @@
--- What the steps of the collapse on sets of points hand to each other: ways over words, and the points of the parts with a loop.
-use Prim.Native.Nat.{ℕ, _*_, _^_, _≤_, _<_}
-use mathlib.Core.List.{List}
+-- What the steps of the collapse on sets of points hand to each other: ways over words, counts of free zones, and the points of the
+-- parts with a loop.
+use Prim.Native.Nat.{ℕ, _+_, _*_, _^_, _≤_, _<_}
+use mathlib.Core.List.{List, [], _∷_}
 use mathlib.Core.Path.{_≡_}
 use mathlib.Core.Bool.{Bool, not, _&&_, _||_}
 use lib.ListN.{length, getD}
 use lib.Dec.{eqb}
+use Rattle.model.specs.Lists.{below, keep, count}
 use Rattle.model.specs.Track.{trackOf, zoneOf, headingOf, rev}
 use Rattle.model.specs.Position.{Position, at, isFree}
 use Rattle.model.specs.Labels.{label}
 use Rattle.rules.specs.Collapse.{freeParts, loopIn}
-use Rattle.points.specs.Sets.{hasBit, Over as Sets·Over}
+use Rattle.bits.specs.Sets.{hasBit}
+use Rattle.points.specs.Ways.{Over as Ways·Over}
 
 -- two ends for each zone, each of them one of so many points
 pub record Sized (points zones : ℕ) (ends : List ℕ) (p : Position) : Type 0 where
@@ -29,7 +32,21 @@ goesOn ends p merging s w = isFree p (zoneOf w) || (merging && (not (eqb (headin
 
 -- the ways over the words below n that a set goes on over
 abbrev pub Over : List ℕ → (ℕ → Bool) → ℕ → List ℕ → Type 0
-Over ends goes n ways = Sets·Over (λ w. getD ends w 0) (endOf ends) goes n ways
+Over ends goes n ways = Ways·Over (λ w. getD ends w 0) (endOf ends) goes n ways
+
+-- how many free zones below `zones` have their end A at each point
+pub record StartCounts (zones : ℕ) (ends : List ℕ) (p : Position) (counts : List ℕ) : Type 0 where
+  pub long : length counts ≡ 64
+  pub each : (q : ℕ) → q < 64 → getD counts q 0 ≡ count (λ z. isFree p z && eqb (getD ends (2 * z) 0) q) (below zones)
+
+-- the sum of a function over a list
+abbrev pub sum : (ℕ → ℕ) → List ℕ → ℕ
+sum f [] = 0
+sum f (a ∷ l) = f a + sum f l
+
+-- the sum of the counts of a part's points
+unfoldable pub countIn : List ℕ → ℕ → ℕ
+countIn counts part = sum (λ q. getD counts q 0) (keep (hasBit part) (below 64))
 
 -- the set of the points whose free part holds a loop, wherever home is
 pub record Looped (points zones : ℕ) (ends : List ℕ) (p : Position) (s : ℕ) : Type 0 where

@@ -1,15 +1,12 @@
 // The collapse of a position on sets of points: the parts over free zones, those with a loop, home's set after joining and merging,
 // and the carriers that the collapse leaves.
 ghost use mathlib.Core.Path.{_≡_};
-ghost use mathlib.Core.Bool.{false, _&&_};
-ghost use Prim.Native.Nat.{_*_, _<_};
-ghost use lib.ListN.{length, getD, replicate};
-ghost use Rattle.model.specs.Lists.{below, count};
+ghost use Prim.Native.Nat.{_^_, _<_};
+ghost use lib.ListN.{length, replicate};
 ghost use Rattle.model.specs.Track.{trackOf};
-ghost use Rattle.model.specs.Position.{isFree};
-ghost use Rattle.points.specs.Sets.{hasBit};
-ghost use Rattle.parts.specs.Home.{Ready, HomeWord, leftPosition, Collapsed};
-ghost use Rattle.parts.specs.Ways.{Sized, goesOn, Over, Looped};
+ghost use Rattle.model.specs.Accepted.{Parsed};
+ghost use Rattle.parts.specs.Home.{HomeWord, leftPosition, Collapsed};
+ghost use Rattle.parts.specs.Ways.{Sized, goesOn, Over, StartCounts, countIn, Looped};
 
 // Whether a set of points goes on over word w: its zone is free; or, in merging, its carrier heads the other way, or leaves at a point
 // of a part with a loop.
@@ -27,7 +24,7 @@ fn goes_on(ends: &[usize], position: &[u32], merging: bool, looped: u64, w: usiz
     if w % 2 != (v % 2) as usize {
         return true;
     }
-    points::has(looped, words::leaving(ends, w))
+    bits::has(looped, words::leaving(ends, w))
 }
 
 // The ways over all words that a set goes on over.
@@ -45,56 +42,61 @@ fn add_ways(ends: &[usize], position: &[u32], merging: bool, looped: u64, ways: 
     }
 }
 
-// How many free zones start in a part.
-fn zones_in(zones: usize, ends: &[usize], position: &[u32], part: u64) -> usize
-    requires { ⌜ Sized 64 zones (now ends) (now position) ⌝ }
-    ensures { λ r. ⌜ r ≡ count (λ z. isFree (now (position .entry)) z && hasBit part (getD (now (ends .entry)) (2 * z) 0)) (below zones) ⌝ }
+// How many free zones have their end A at each point.
+fn count_starts(zones: usize, ends: &[usize], position: &[u32], counts: &mut [usize])
+    requires { ⌜ Sized 64 zones (now ends) (now position) × (now counts ≡ replicate 64 0) ⌝ }
+    ensures { λ r. ⌜ StartCounts zones (now (ends .entry)) (now (position .entry)) (now (counts .exit)) ⌝ }
 {
-    let mut n = 0;
     let mut z = 0;
     while z < zones {
         if position[z] == 0 {
-            if points::has(part, ends[2 * z]) {
-                n += 1;
-            }
+            let point = ends[2 * z];
+            counts[point] = counts[point] + 1;
         }
         z += 1;
+    }
+}
+
+// How many free zones a part has: the sum of the counts of its points.
+fn zones_in(counts: &[usize], part: u64) -> usize
+    requires { ⌜ (length (now counts) ≡ 64) × (countIn (now counts) part < 2 ^ 64) ⌝ }
+    ensures { λ r. ⌜ r ≡ countIn (now (counts .entry)) part ⌝ }
+{
+    let mut n = 0;
+    let mut rest = part;
+    while rest != 0 {
+        n = n + counts[bits::lowest(rest)];
+        rest = bits::but_lowest(rest);
     }
     n
 }
 
 // The points of the free parts that hold a loop: at least as many free zones as points. The part of the lowest point not yet in one is
 // grown over the ways of free zones.
-fn loops(points: usize, zones: usize, ends: &[usize], position: &[u32], ways: &[u64]) -> u64
-    requires { ⌜ Sized points zones (now ends) (now position) × Over (now ends) (goesOn (now ends) (now position) false 0) (2 * zones) (now ways) ⌝ }
-    ensures { λ r. ⌜ Looped points zones (now (ends .entry)) (now (position .entry)) r ⌝ }
-{
-    let mut looped = 0;
-    let mut rest = points::all(points);
-    while rest != 0 {
-        let part = points::grow(ways, points::lowest(rest));
-        if points::size(part) <= zones_in(zones, ends, position, part) {
-            looped = looped | part;
-        }
-        rest = points::without(rest, part);
-    }
-    looped
-}
-
-// The same, from the position alone.
 fn looped_points(points: usize, zones: usize, ends: &[usize], position: &[u32]) -> u64
     requires { ⌜ Sized points zones (now ends) (now position) ⌝ }
     ensures { λ r. ⌜ Looped points zones (now (ends .entry)) (now (position .entry)) r ⌝ }
 {
     let mut ways = [0u64; 64];
     add_ways(ends, position, false, 0, &mut ways);
-    loops(points, zones, ends, position, &ways)
+    let mut counts = [0usize; 64];
+    count_starts(zones, ends, position, &mut counts);
+    let mut looped = 0;
+    let mut rest = bits::all(points);
+    while rest != 0 {
+        let part = points::grow(&ways, bits::lowest(rest));
+        if bits::size(part) <= zones_in(&counts, part) {
+            looped = looped | part;
+        }
+        rest = bits::without(rest, part);
+    }
+    looped
 }
 
 // Home's set of points at the end of the collapse. Joining and merging are one growing: a joined zone is gone over both ways, and a
 // held one from where its carrier leaves to where it starts.
 fn home_set(points: usize, home: usize, zones: usize, ends: &[usize], position: &[u32]) -> u64
-    requires { ⌜ Ready (trackOf points home zones (now ends)) (now position) ⌝ }
+    requires { ⌜ Parsed (trackOf points home zones (now ends)) (now position) ⌝ }
     ensures { λ r. ⌜ HomeWord (trackOf points home zones (now (ends .entry))) (now (position .entry)) r ⌝ }
 {
     let looped = looped_points(points, zones, ends, position);
@@ -112,7 +114,7 @@ fn take_off(zones: usize, ends: &[usize], set: u64, position: &mut [u32])
     while z < zones {
         let v = position[z];
         let q = words::leaving(ends, 2 * z + (v % 2) as usize);
-        if points::has(set, q) {
+        if bits::has(set, q) {
             position[z] = 0;
         }
         z += 1;
@@ -127,7 +129,7 @@ pub fn collapse_position(
     ends: &[usize],
     position: &mut [u32],
 )
-    requires { ⌜ Ready (trackOf points home zones (now ends)) (now position) ⌝ }
+    requires { ⌜ Parsed (trackOf points home zones (now ends)) (now position) ⌝ }
     ensures { λ r. ⌜ Collapsed (trackOf points home zones (now (ends .entry))) (now (position .entry)) (now (position .exit)) ⌝ }
 {
     let set = home_set(points, home, zones, ends, position);

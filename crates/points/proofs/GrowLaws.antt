@@ -11,10 +11,11 @@ use lib.Dec.{eqb}
 use lib.ListN.{getD}
 use lib.Bits.{bitOr, or-lt}
 use lib.Count.{ones, ones-le}
-use Rattle.points.specs.Sets.{hasBit, less, Lowest, Reach, Grown}
-use Rattle.points.specs.Sets.Reach.{here, on}
-use Rattle.points.proofs.BitLaws.{bit-none, in-or, or-left, or-right, neither-left, in-less, less-in, less-gone, less-word, alone-there, alone-only, alone-other, alone-word}
-use Rattle.points.proofs.SizeLaws.{size-both, size-apart, size-fewer}
+use Rattle.bits.specs.Sets.{hasBit, less, Lowest}
+use Rattle.bits.proofs.BitLaws.{bit-none, in-or, or-left, or-right, neither-left, in-less, less-in, less-gone, less-word, alone-there, alone-only, alone-other, alone-word}
+use Rattle.bits.proofs.SizeLaws.{size-both, size-apart, size-fewer}
+use Rattle.points.specs.Ways.{Reach, Grown}
+use Rattle.points.specs.Ways.Reach.{here, on}
 
 pub record Growing (ways : List ℕ) (from found fresh : ℕ) : Type 0 where
   pub found-word : found < 2 ^ 64

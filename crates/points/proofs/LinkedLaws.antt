@@ -7,8 +7,8 @@ use mathlib.Core.Bool.{Bool, true}
 use Rattle.model.specs.Track.{Track, Linked, zoneOf, start, leave}
 use Rattle.model.specs.Track.Linked.{here}
 use Rattle.model.proofs.LinkLaws.{linked-trans, linked-word, linked-keeps}
-use Rattle.points.specs.Sets.{Reach, Over}
-use Rattle.points.specs.Sets.Reach.{here as stays, on}
+use Rattle.points.specs.Ways.{Reach, Over}
+use Rattle.points.specs.Ways.Reach.{here as stays, on}
 
 module _ (t : Track) (pass : ℕ → Bool) {goes : ℕ → Bool} {ways : List ℕ} (o : Over (start t) (leave t) goes (2 * t .zones) ways) (same : (w : ℕ) → goes w ≡ pass (zoneOf w)) where
   pub reach-linked : {a b : ℕ} → Reach ways a b → Linked t (λ z. pass z ≡ true) a b

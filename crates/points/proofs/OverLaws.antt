@@ -9,8 +9,9 @@ use native.Mathlib.Nat.{eq-or-lt-of-le}
 use native.Mathlib.Omega.{arith}
 use lib.ListN.{length, getD, replicate, length-set}
 use Rattle.model.proofs.ListLaws.{getD-zeros}
-use Rattle.points.specs.Sets.{hasBit, Ways, Over}
-use Rattle.points.proofs.BitLaws.{bit-none}
+use Rattle.bits.specs.Sets.{hasBit}
+use Rattle.bits.proofs.BitLaws.{bit-none}
+use Rattle.points.specs.Ways.{Ways, Over}
 use Rattle.points.proofs.WayLaws.{added, added-way, added-old, added-new}
 
 -- what is below n + 1 is below n or n itself

@@ -10,9 +10,10 @@ use lib.ListN.{length, getD, set}
 use lib.Seq.{getD-set-same, getD-set-other}
 use lib.Dec.{eqb}
 use lib.Bits.{bitOr}
-use Rattle.points.specs.Sets.{hasBit, Ways, Reach}
-use Rattle.points.specs.Sets.Reach.{here, on}
-use Rattle.points.proofs.BitLaws.{bit-or, bit-alone, or-right, alone-there}
+use Rattle.bits.specs.Sets.{hasBit}
+use Rattle.bits.proofs.BitLaws.{bit-or, bit-alone, or-right, alone-there}
+use Rattle.points.specs.Ways.{Ways, Reach}
+use Rattle.points.specs.Ways.Reach.{here, on}
 
 -- one way more, from p to q
 abbrev pub added : List ℕ → ℕ → ℕ → List ℕ

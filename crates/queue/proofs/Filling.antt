@@ -25,18 +25,18 @@ pub record Filling (i n : ℕ) (left words froms : List ℕ) (found : ℕ) (all 
   pub words-end : sets words n left ≡ sets words₀ found all
   pub froms-end : sets froms n (map (λ v. i) left) ≡ sets froms₀ found (map (λ v. i) all)
 
-pub fill-starts : (i found : ℕ) (all words froms : List ℕ) → Filling i found all words froms found all words froms
-fill-starts i found all words froms = record { words-same = refl; froms-same = refl; counted = refl; words-end = refl; froms-end = refl }
+pub filling-starts : (i found : ℕ) (all words froms : List ℕ) → Filling i found all words froms found all words froms
+filling-starts i found all words froms = record { words-same = refl; froms-same = refl; counted = refl; words-end = refl; froms-end = refl }
 
 module _ {i n : ℕ} {left words froms : List ℕ} {found : ℕ} {all words₀ froms₀ : List ℕ} (room : Room all found words₀ froms₀) (f : Filling i n left words froms found all words₀ froms₀) where
   -- the first words to come fit
-  pub fill-room : {vs : List ℕ} (more : List ℕ) → left ≡ vs ++ more → Room vs n words froms
-  fill-room {vs} more e =
+  pub filling-room : {vs : List ℕ} (more : List ℕ) → left ≡ vs ++ more → Room vs n words froms
+  filling-room {vs} more e =
       let l : length left ≡ length vs + length more = ap length e ∙ length-append vs more in
       record { in-words = omega (arith, f .counted, f .words-same, room .in-words); in-froms = omega (arith, f .counted, f .froms-same, room .in-froms) }
 
-  pub fill-one : {v : ℕ} {more : List ℕ} → left ≡ v ∷ more → Filling i (n + 1) more (set words n v) (set froms n i) found all words₀ froms₀
-  fill-one {v} {more} e =
+  pub filling-one : {v : ℕ} {more : List ℕ} → left ≡ v ∷ more → Filling i (n + 1) more (set words n v) (set froms n i) found all words₀ froms₀
+  filling-one {v} {more} e =
       let l : length left ≡ suc (length more) = ap length e in
       record {
         words-same = length-set words n v ∙ f .words-same;
@@ -50,10 +50,10 @@ module _ {i n : ℕ} {left words froms : List ℕ} {found : ℕ} {all words₀ f
       }
 
   -- several at once
-  pub fill-many : {vs words′ froms′ : List ℕ} {r : ℕ} (more : List ℕ) → left ≡ vs ++ more → Stored vs i n words froms words′ froms′ r → Filling i r more words′ froms′ found all words₀ froms₀
-  fill-many {vs} {words′} {froms′} {r} more e s =
+  pub filling-many : {vs words′ froms′ : List ℕ} {r : ℕ} (more : List ℕ) → left ≡ vs ++ more → Stored vs i n words froms words′ froms′ r → Filling i r more words′ froms′ found all words₀ froms₀
+  filling-many {vs} {words′} {froms′} {r} more e s =
       let l : length left ≡ length vs + length more = ap length e ∙ length-append vs more in
-      let b : Room vs n words froms = fill-room more e in
+      let b : Room vs n words froms = filling-room more e in
       let w : words′ ≡ sets words n vs = s .words-stored ∙ sym (overwritten-sets words n vs (b .in-words)) in
       let m : length (map (λ v. i) vs) ≡ length vs = length-map vs (λ v. i) in
       let g : froms′ ≡ sets froms n (map (λ v. i) vs) = s .froms-stored ∙ sym (overwritten-sets froms n (map (λ v. i) vs) (omega (arith, b .in-froms))) in
@@ -74,8 +74,8 @@ module _ {i n : ℕ} {left words froms : List ℕ} {found : ℕ} {all words₀ f
             f .froms-end;
       }
 
-  pub fill-done : left ≡ [] → Stored all i found words₀ froms₀ words froms n
-  fill-done e =
+  pub filling-done : left ≡ [] → Stored all i found words₀ froms₀ words froms n
+  filling-done e =
       let l : length left ≡ 0 = ap length e in
       let m : length (map (λ v. i) all) ≡ length all = length-map all (λ v. i) in
       record {

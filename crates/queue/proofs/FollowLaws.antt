@@ -12,9 +12,9 @@ use lib.Seq.{getD-set-same, getD-set-other}
 use lib.Dec.{eqb, ltb}
 use lib.Bits.{bitOr}
 use Rattle.model.specs.Track.{rev}
-use Rattle.points.specs.Sets.{hasBit, less}
-use Rattle.points.proofs.BitLaws.{bit-with, bit-none, bit-less}
-use Rattle.queue.specs.WordSets.{WordAdded}
+use Rattle.bits.specs.Sets.{hasBit, less}
+use Rattle.bits.proofs.BitLaws.{bit-with, bit-none, bit-less}
+use Rattle.queue.specs.WordSets.{Added}
 use Rattle.queue.specs.Follows.{inRow, Sized, Starts, RowFilled, comesAfter, Follows}
 use Rattle.queue.proofs.WordSetLaws.{same-eqb, next-below, no-words}
 
@@ -35,7 +35,7 @@ starts-none ends starts e = record {
 }
 
 pub starts-more : {w : ℕ} {ends starts starts′ : List ℕ} → Starts w ends starts → w < 192 → length starts′ ≡ length starts
-    → WordAdded (192 * getD ends w 0 + w) starts starts′ → Starts (w + 1) ends starts′
+    → Added (192 * getD ends w 0 + w) starts starts′ → Starts (w + 1) ends starts′
 starts-more {w} {ends} {starts} {starts′} s h kept a = record {
   long = kept ∙ s .long;
   row = λ q v l m.

@@ -3,6 +3,7 @@ pub mod FollowLaws
 pub mod Filling
 pub mod BlockLaws
 pub mod OfferBlocks
+pub mod Queued
 pub mod Appending
 pub mod QueueArrays
 pub mod OfferLaws

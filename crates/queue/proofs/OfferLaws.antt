@@ -1,4 +1,4 @@
--- An offering of the words that come after a word and are unseen is the offering of the next words of the step rule, and the arrays are a queue again.
+-- An offering of the words that come after a word and may still be entered is the offering of the next words of the step rule, and the arrays are a queue again.
 -- What comes after on the track, may be entered and is not in the queue is what the table and the set have in common.
 use Prim.Native.Nat.{ℕ, _+_, _-_, _*_, _≤_, _<_}
 use mathlib.Core.Path.{_≡_, refl, sym, _∙_, ap, ap₂}
@@ -17,10 +17,10 @@ use Rattle.model.proofs.CountLaws.{count-below, count-below-ext, count-either}
 use Rattle.model.proofs.PlaceLaws.{getD-mem, getD-map}
 use Rattle.rules.specs.Key.{mayEnter, steps, nexts}
 use Rattle.least.specs.Queue.{offerAll}
-use Rattle.queue.specs.WordSets.{hasWord}
-use Rattle.queue.specs.Follows.{inRow, comesAfter}
-use Rattle.queue.specs.Offers.{Room, unseenAfter, Offered}
-use Rattle.queue.specs.Searching.{zonesOnly, Tables, queueIn, Queued}
+use Rattle.queue.specs.WordSets.{inSet}
+use Rattle.queue.specs.Follows.{BoardTable, inRow, comesAfter}
+use Rattle.queue.specs.Offers.{Room, enterableAfter, Offered}
+use Rattle.queue.proofs.Queued.{zonesOnly, queueIn, Queued}
 use Rattle.queue.proofs.Appending.{offer-row}
 use Rattle.queue.proofs.QueueArrays.{queued-most}
 
@@ -52,20 +52,20 @@ both-pairs true true c d = refl
 both-pairs true false c d = refl
 both-pairs false b c d = refl
 
--- what passes a test and is not seen is not seen
+-- no word is both in the queue and new
 never-both : (a b : Bool) → (a && (b && not a)) ≡ false
 never-both true b = and-false b
 never-both false b = refl
 
--- what is unseen after a part of it is seen
+-- what is enterable once a part of it is found
 less-seen : (e a r : Bool) → ((e && not a) && not r) ≡ (e && not (a || (r && (e && not a))))
 less-seen true true r = refl
 less-seen true false true = refl
 less-seen true false false = refl
 less-seen false a r = refl
 
-module _ {zones : ℕ} {ends p follows : List ℕ} (t : Tables zones ends p follows) {c last : ℕ} (small : last < 2 * zones)
-    {words froms unseen : List ℕ} {found : ℕ} (q : Queued (2 * zones) p c words froms unseen found) where
+module _ {zones : ℕ} {ends p follows : List ℕ} (t : BoardTable zones ends p follows) {c last : ℕ} (small : last < 2 * zones)
+    {words froms enterable : List ℕ} {found : ℕ} (q : Queued (2 * zones) p c words froms enterable found) where
   abbrev m : ℕ
   m = 2 * zones
 
@@ -74,14 +74,14 @@ module _ {zones : ℕ} {ends p follows : List ℕ} (t : Tables zones ends p foll
   seen v = any (eqb v) (take found words)
 
   abbrev after : ℕ → Bool
-  after v = inRow follows last v && hasWord unseen v
+  after v = inRow follows last v && inSet enterable v
 
   -- a next word that is not in the queue
   abbrev new : ℕ → Bool
   new v = steps (zonesOnly zones ends) p c last v && not (seen v)
 
   abbrev next : List ℕ
-  next = unseenAfter follows last unseen
+  next = enterableAfter follows last enterable
 
   row-at : (v : ℕ) → v < 192 → {b : Bool} → ltb v m ≡ b → inRow follows last v ≡ (b && comesAfter ends last v)
   row-at v h e = t .filled .row last v small h ∙ ap (λ (b : Bool). b && comesAfter ends last v) e
@@ -89,7 +89,7 @@ module _ {zones : ℕ} {ends p follows : List ℕ} (t : Tables zones ends p foll
   new-after : (v : ℕ) → v < m → new v ≡ after v
   new-after v h =
       both-pairs (eqb (getD ends v 0) (getD ends (rev last) 0)) (not (eqb (zoneOf v) (zoneOf last))) (mayEnter p c v) (not (seen v)) ∙
-      sym (ap₂ (λ (a b : Bool). a && b) (row-at v (omega (arith, t .few)) (lt-ltb v m h)) (q .marks v h))
+      sym (ap₂ (λ (a b : Bool). a && b) (row-at v (omega (arith, t .few)) (lt-ltb v m h)) (q .enters v h))
 
   next-is : keep new (below m) ≡ next
   next-is =
@@ -104,7 +104,7 @@ module _ {zones : ℕ} {ends p follows : List ℕ} (t : Tables zones ends p foll
       beyond : (v : ℕ) → List·Memᴰ v (countUp (0 + m) (192 - m)) → after v ≡ false
       beyond v l =
           let r = mem-countUp (0 + m) (192 - m) l in
-          ap (λ (b : Bool). b && hasWord unseen v) (row-at v (omega (arith, r, t .few)) (le-ltb v m (omega (arith, r))))
+          ap (λ (b : Bool). b && inSet enterable v) (row-at v (omega (arith, r, t .few)) (le-ltb v m (omega (arith, r))))
 
   any-next : (v : ℕ) → v < m → any (eqb v) next ≡ new v
   any-next v h = same-test (any (eqb v) next) (after v) there back ∙ sym (new-after v h)
@@ -128,7 +128,7 @@ module _ {zones : ℕ} {ends p follows : List ℕ} (t : Tables zones ends p foll
   pub offered-room : Room next found words froms
   offered-room = record { in-words = omega (arith, most, q .room-words); in-froms = omega (arith, most, q .room-froms) }
 
-  module _ {i : ℕ} (earlier : i < found) {words′ froms′ unseen′ : List ℕ} {r : ℕ} (o : Offered follows last i found words froms unseen words′ froms′ unseen′ r) where
+  module _ {i : ℕ} (earlier : i < found) {words′ froms′ enterable′ : List ℕ} {r : ℕ} (o : Offered follows last i found words froms enterable words′ froms′ enterable′ r) where
     pub offered-later : i < r
     offered-later = omega (arith, earlier, o .stored .longer)
 
@@ -148,14 +148,14 @@ module _ {zones : ℕ} {ends p follows : List ℕ} (t : Tables zones ends p foll
         ap (λ (l : List ℕ). record { words = take found words ++ l; froms = take found froms ++ map (λ v. i) l }) (sym next-is) ∙
         sym (offer-row (steps (zonesOnly zones ends) p c last) i 0 m (queueIn words froms found))
 
-    pub offered-queued : length words′ ≡ length words → length froms′ ≡ length froms → length unseen′ ≡ length unseen → Queued m p c words′ froms′ unseen′ r
+    pub offered-queued : length words′ ≡ length words → length froms′ ≡ length froms → length enterable′ ≡ length enterable → Queued m p c words′ froms′ enterable′ r
     offered-queued a b d = record {
       room-words = omega (arith, a, q .room-words);
       room-froms = omega (arith, b, q .room-froms);
       blocks = d ∙ q .blocks;
       inside = λ j h. inside j h (ltb j found) refl;
       falls = λ j l h. falls j l h (ltb j found) refl;
-      marks = marks;
+      enters = enters;
       counted = count-below-ext (λ v. any (eqb v) (take r words′)) (λ v. seen v || new v) m any-taken ∙ counts ∙ sym (o .stored .longer);
     }
       where
@@ -165,12 +165,12 @@ module _ {zones : ℕ} {ends p follows : List ℕ} (t : Tables zones ends p foll
             any-append (eqb v) (take found words) next ∙
             ap (λ (b : Bool). seen v || b) (any-next v h)
 
-        marks : (v : ℕ) → v < m → hasWord unseen′ v ≡ (mayEnter p c v && not (any (eqb v) (take r words′)))
-        marks v h =
-            o .seen v (omega (arith, t .few)) ∙
-            ap (λ (b : Bool). b && not (inRow follows last v)) (q .marks v h) ∙
+        enters : (v : ℕ) → v < m → inSet enterable′ v ≡ (mayEnter p c v && not (any (eqb v) (take r words′)))
+        enters v h =
+            o .still v (omega (arith, t .few)) ∙
+            ap (λ (b : Bool). b && not (inRow follows last v)) (q .enters v h) ∙
             less-seen (mayEnter p c v) (seen v) (inRow follows last v) ∙
-            ap (λ (b : Bool). mayEnter p c v && not (seen v || b)) (ap (λ (b : Bool). inRow follows last v && b) (sym (q .marks v h)) ∙ sym (new-after v h)) ∙
+            ap (λ (b : Bool). mayEnter p c v && not (seen v || b)) (ap (λ (b : Bool). inRow follows last v && b) (sym (q .enters v h)) ∙ sym (new-after v h)) ∙
             ap (λ (b : Bool). mayEnter p c v && not b) (sym (any-taken v h))
 
         inside : (j : ℕ) → j < r → (b : Bool) → ltb j found ≡ b → getD words′ j 0 < m

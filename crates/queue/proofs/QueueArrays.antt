@@ -15,11 +15,11 @@ use Rattle.model.proofs.CountLaws.{count-below, count-one-more}
 use Rattle.model.specs.Position.{Position}
 use Rattle.rules.specs.Key.{mayEnter}
 use Rattle.least.specs.Queue.{pathOnto, pathTo}
-use Rattle.queue.specs.WordSets.{hasWord}
-use Rattle.queue.specs.Searching.{queueIn, Queued}
+use Rattle.queue.specs.WordSets.{inSet}
 use Rattle.queue.specs.Written.{routeTo, Readable}
+use Rattle.queue.proofs.Queued.{queueIn, Queued}
 
-module _ {m : ℕ} {p : Position} {c : ℕ} {words froms unseen : List ℕ} {n : ℕ} (q : Queued m p c words froms unseen n) where
+module _ {m : ℕ} {p : Position} {c : ℕ} {words froms enterable : List ℕ} {n : ℕ} (q : Queued m p c words froms enterable n) where
   pub queued-most : n ≤ m
   queued-most = omega (arith, q .counted, count-below (λ v. any (eqb v) (take n words)) m)
 
@@ -51,15 +51,15 @@ module _ {m : ℕ} {p : Position} {c : ℕ} {words froms unseen : List ℕ} {n :
   }
 
 -- one word is in the queue
-pub queued-one : (m : ℕ) (p : Position) (c : ℕ) (words froms unseen : List ℕ) (w : ℕ) → m ≤ length words → m ≤ length froms → length unseen ≡ 3 → w < m
-    → ((v : ℕ) → v < m → hasWord unseen v ≡ (mayEnter p c v && not (eqb v w))) → Queued m p c (set words 0 w) (set froms 0 0) unseen 1
-queued-one m p c words froms unseen w a b d h marks = record {
+pub queued-one : (m : ℕ) (p : Position) (c : ℕ) (words froms enterable : List ℕ) (w : ℕ) → m ≤ length words → m ≤ length froms → length enterable ≡ 3 → w < m
+    → ((v : ℕ) → v < m → inSet enterable v ≡ (mayEnter p c v && not (eqb v w))) → Queued m p c (set words 0 w) (set froms 0 0) enterable 1
+queued-one m p c words froms enterable w a b d h enters = record {
   room-words = rw length-set a;
   room-froms = rw length-set b;
   blocks = d;
   inside = λ j l. let first : j ≡ 0 = omega arith in rw (first, getD-set-same words 0 w 0 (omega arith)) h;
   falls = λ j z l. absurd (omega arith);
-  marks = λ v l. marks v l ∙ ap (λ (t : Bool). mayEnter p c v && not t) (sym (alone v));
+  enters = λ v l. enters v l ∙ ap (λ (t : Bool). mayEnter p c v && not t) (sym (alone v));
   counted =
       count-one-more (λ v. any (eqb v) (take 1 (set words 0 w))) (λ v. false) m w h (alone w ∙ eq-eqb w w refl) refl (λ j l d. alone j ∙ ne-eqb j w d) ∙
       ap (λ (k : ℕ). k + 1) (count-none (λ v. false) (below m) (λ v l. refl));

@@ -13,9 +13,9 @@ use lib.Bits.{bitOr}
 use Rattle.model.specs.Position.{Position, isFree}
 use Rattle.model.proofs.BoolLaws.{same-test}
 use Rattle.model.proofs.ListLaws.{getD-zeros}
-use Rattle.points.specs.Sets.{hasBit}
-use Rattle.points.proofs.BitLaws.{bit-with, bit-none}
-use Rattle.queue.specs.WordSets.{hasWord, WordAdded, ZoneAdded, NoWords, FreeWords}
+use Rattle.bits.specs.Sets.{hasBit}
+use Rattle.bits.proofs.BitLaws.{bit-with, bit-none}
+use Rattle.queue.specs.WordSets.{inSet, Added, ZoneAdded, Fillable, FreeWords}
 
 -- two tests for equal numbers agree where the one equation holds with the other
 pub same-eqb : (a b c d : ℕ) → (a ≡ b → c ≡ d) → (c ≡ d → a ≡ b) → eqb a b ≡ eqb c d
@@ -36,14 +36,14 @@ next-below f x z = go (eqb x z) refl
         ap (λ (a : Bool). a && f x) same ∙ sym (or-false (ltb x z && f x))
 
 -- no word is in blocks of zeros
-pub no-words : (n v : ℕ) → hasWord (replicate n 0) v ≡ false
+pub no-words : (n v : ℕ) → inSet (replicate n 0) v ≡ false
 no-words n v = ap (λ (b : ℕ). hasBit b (v % 64)) (getD-zeros n (v / 64)) ∙ bit-none (v % 64)
 
 -- the block of w stored with its bit
-pub word-added : (l : List ℕ) (w b : ℕ) → w / 64 < length l → b ≡ bitOr (getD l (w / 64) 0) (2 ^ (w % 64)) → WordAdded w l (set l (w / 64) b)
+pub word-added : (l : List ℕ) (w b : ℕ) → w / 64 < length l → b ≡ bitOr (getD l (w / 64) 0) (2 ^ (w % 64)) → Added w l (set l (w / 64) b)
 word-added l w b h stored = record { has = λ v. go v (eqb (v / 64) (w / 64)) refl }
   where
-    go : (v : ℕ) (t : Bool) → eqb (v / 64) (w / 64) ≡ t → hasWord (set l (w / 64) b) v ≡ (hasWord l v || eqb v w)
+    go : (v : ℕ) (t : Bool) → eqb (v / 64) (w / 64) ≡ t → inSet (set l (w / 64) b) v ≡ (inSet l v || eqb v w)
     go v true e =
         let same : v / 64 ≡ w / 64 = eqb-true (v / 64) (w / 64) e in
         ap (λ (i : ℕ). hasBit (getD (set l (w / 64) b) i 0) (v % 64)) same ∙
@@ -53,36 +53,36 @@ word-added l w b h stored = record { has = λ v. go v (eqb (v / 64) (w / 64)) re
     go v false e =
         let other : v / 64 ≡ w / 64 → ⊥ = eqb-false (v / 64) (w / 64) e in
         ap (λ (x : ℕ). hasBit x (v % 64)) (getD-set-other l (w / 64) (v / 64) b 0 other) ∙
-        sym (or-false (hasWord l v)) ∙
-        ap (λ (t : Bool). hasWord l v || t) (sym (ne-eqb v w (λ q. other (ap (λ (x : ℕ). x / 64) q))))
+        sym (or-false (inSet l v)) ∙
+        ap (λ (t : Bool). inSet l v || t) (sym (ne-eqb v w (λ q. other (ap (λ (x : ℕ). x / 64) q))))
 
 -- the two words of a zone, one after the other
-pub zone-added : (z : ℕ) (l m n : List ℕ) → WordAdded (2 * z) l m → WordAdded (2 * z + 1) m n → ZoneAdded z l n
-zone-added z l m n a b = record { has = λ v. b .has v ∙ ap (λ (t : Bool). t || eqb v (2 * z + 1)) (a .has v) ∙ or-assoc (hasWord l v) (eqb v (2 * z)) (eqb v (2 * z + 1)) ∙ ap (λ (t : Bool). hasWord l v || t) (one-zone v (eqb v (2 * z)) refl) }
+pub zone-added : (z : ℕ) (l m n : List ℕ) → Added (2 * z) l m → Added (2 * z + 1) m n → ZoneAdded z l n
+zone-added z l m n a b = record { has = λ v. b .has v ∙ ap (λ (t : Bool). t || eqb v (2 * z + 1)) (a .has v) ∙ or-assoc (inSet l v) (eqb v (2 * z)) (eqb v (2 * z + 1)) ∙ ap (λ (t : Bool). inSet l v || t) (one-zone v (eqb v (2 * z)) refl) }
   where
     one-zone : (v : ℕ) (t : Bool) → eqb v (2 * z) ≡ t → (t || eqb v (2 * z + 1)) ≡ eqb (v / 2) z
     one-zone v true e = let same : v ≡ 2 * z = eqb-true v (2 * z) e in sym (eq-eqb (v / 2) z (omega arith))
     one-zone v false e = let other : v ≡ 2 * z → ⊥ = eqb-false v (2 * z) e in same-eqb v (2 * z + 1) (v / 2) z (λ q. omega arith) (λ q. omega arith)
 
 -- the filling, with the zones below z done
-pub record Freed (p : Position) (l : List ℕ) (z : ℕ) : Type 0 where
+pub record FreeBelow (p : Position) (l : List ℕ) (z : ℕ) : Type 0 where
   pub low : z ≤ length p
   pub few : length p ≤ 96
   pub blocks : length l ≡ 3
-  pub has : (v : ℕ) → hasWord l v ≡ (ltb (v / 2) z && isFree p (v / 2))
+  pub has : (v : ℕ) → inSet l v ≡ (ltb (v / 2) z && isFree p (v / 2))
 
-pub freed-starts : (p : Position) (l : List ℕ) → NoWords p l → Freed p l 0
-freed-starts p l n = record {
+pub free-starts : (p : Position) (l : List ℕ) → Fillable p l → FreeBelow p l 0
+free-starts p l n = record {
   low = omega arith;
   few = n .few;
   blocks = ap length (n .none);
-  has = λ v. ap (λ (m : List ℕ). hasWord m v) (n .none) ∙ no-words 3 v ∙ ap (λ (t : Bool). t && isFree p (v / 2)) (sym (le-ltb (v / 2) 0 (omega arith)));
+  has = λ v. ap (λ (m : List ℕ). inSet m v) (n .none) ∙ no-words 3 v ∙ ap (λ (t : Bool). t && isFree p (v / 2)) (sym (le-ltb (v / 2) 0 (omega arith)));
 }
 
-module _ {p : Position} {l : List ℕ} {z : ℕ} (f : Freed p l z) (h : z < length p) where
+module _ {p : Position} {l : List ℕ} {z : ℕ} (f : FreeBelow p l z) (h : z < length p) where
   -- a free zone's words are put in
-  pub freed-more : {m : List ℕ} → getD p z 0 ≡ 0 → length m ≡ length l → ZoneAdded z l m → Freed p m (z + 1)
-  freed-more {m} free kept a = record {
+  pub free-more : {m : List ℕ} → getD p z 0 ≡ 0 → length m ≡ length l → ZoneAdded z l m → FreeBelow p m (z + 1)
+  free-more {m} free kept a = record {
     low = omega arith;
     few = f .few;
     blocks = kept ∙ f .blocks;
@@ -93,8 +93,8 @@ module _ {p : Position} {l : List ℕ} {z : ℕ} (f : Freed p l z) (h : z < leng
   }
 
   -- a held zone is passed over
-  pub freed-past : (getD p z 0 ≡ 0 → ⊥) → Freed p l (z + 1)
-  freed-past held = record {
+  pub free-past : (getD p z 0 ≡ 0 → ⊥) → FreeBelow p l (z + 1)
+  free-past held = record {
     low = omega arith;
     few = f .few;
     blocks = f .blocks;
@@ -104,5 +104,5 @@ module _ {p : Position} {l : List ℕ} {z : ℕ} (f : Freed p l z) (h : z < leng
         sym (next-below (isFree p) (v / 2) z);
   }
 
-pub freed-done : {p : Position} {l : List ℕ} {z : ℕ} → Freed p l z → length p ≤ z → FreeWords p l
-freed-done {p} {l} {z} f e = record { has = λ v h. f .has v ∙ ap (λ (t : Bool). t && isFree p (v / 2)) (lt-ltb (v / 2) z (omega arith)) }
+pub free-done : {p : Position} {l : List ℕ} {z : ℕ} → FreeBelow p l z → length p ≤ z → FreeWords p l
+free-done {p} {l} {z} f e = let all : z ≡ length p = omega (arith, f .low) in record { has = λ v. f .has v ∙ ap (λ (n : ℕ). ltb (v / 2) n && isFree p (v / 2)) all }

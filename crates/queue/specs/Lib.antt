@@ -1,5 +1,4 @@
 pub mod WordSets
 pub mod Follows
 pub mod Offers
-pub mod Searching
 pub mod Written

@@ -1,15 +1,15 @@
--- Words put at the end of a queue in two arrays: those that come after a word and are unseen.
+-- Words put at the end of a queue in two arrays: those that come after a word and may still be entered.
 use Prim.Native.Nat.{ℕ, _+_, _-_, _*_, _≤_, _<_}
 use mathlib.Core.List.{List, map}
 use mathlib.Core.Path.{_≡_}
 use mathlib.Core.Bool.{not, _&&_}
 use lib.ListN.{length}
 use Rattle.model.specs.Lists.{countUp, below, keep, overwrittenAt}
-use Rattle.points.specs.Sets.{hasBit}
-use Rattle.queue.specs.WordSets.{hasWord}
+use Rattle.bits.specs.Sets.{hasBit}
+use Rattle.queue.specs.WordSets.{inSet}
 use Rattle.queue.specs.Follows.{inRow}
 
--- the words of one block of 64, the first of which is `first`, ascending
+-- the words of one block of 64, whose bit 0 is word `first`, ascending
 abbrev pub members : ℕ → ℕ → List ℕ
 members first block = keep (λ v. hasBit block (v - first)) (countUp first 64)
 
@@ -24,17 +24,17 @@ pub record Stored (vs : List ℕ) (i found : ℕ) (words froms words′ froms′
   pub words-stored : words′ ≡ overwrittenAt found vs words
   pub froms-stored : froms′ ≡ overwrittenAt found (map (λ v. i) vs) froms
 
--- the words that come after `last` and are unseen, ascending
-abbrev pub unseenAfter : List ℕ → ℕ → List ℕ → List ℕ
-unseenAfter follows last unseen = keep (λ v. inRow follows last v && hasWord unseen v) (below 192)
+-- the words in the row of `last` that are enterable, ascending
+abbrev pub enterableAfter : List ℕ → ℕ → List ℕ → List ℕ
+enterableAfter follows last enterable = keep (λ v. inRow follows last v && inSet enterable v) (below 192)
 
 -- what an offering asks: a row for the word, a set of three blocks, and room
-pub record Offering (follows : List ℕ) (last found : ℕ) (words froms unseen : List ℕ) : Type 0 where
+pub record Offering (follows : List ℕ) (last found : ℕ) (words froms enterable : List ℕ) : Type 0 where
   pub row : 3 * last + 3 ≤ length follows
-  pub blocks : length unseen ≡ 3
-  pub room : Room (unseenAfter follows last unseen) found words froms
+  pub blocks : length enterable ≡ 3
+  pub room : Room (enterableAfter follows last enterable) found words froms
 
--- what it gives: those words are in the queue, and unseen no more
-pub record Offered (follows : List ℕ) (last i found : ℕ) (words froms unseen words′ froms′ unseen′ : List ℕ) (r : ℕ) : Type 0 where
-  pub stored : Stored (unseenAfter follows last unseen) i found words froms words′ froms′ r
-  pub seen : (v : ℕ) → v < 192 → hasWord unseen′ v ≡ (hasWord unseen v && not (inRow follows last v))
+-- what it gives: those words are in the queue, and enterable no more
+pub record Offered (follows : List ℕ) (last i found : ℕ) (words froms enterable words′ froms′ enterable′ : List ℕ) (r : ℕ) : Type 0 where
+  pub stored : Stored (enterableAfter follows last enterable) i found words froms words′ froms′ r
+  pub still : (v : ℕ) → v < 192 → inSet enterable′ v ≡ (inSet enterable v && not (inRow follows last v))

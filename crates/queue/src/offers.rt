@@ -17,16 +17,17 @@ fn store_block(
     let mut n = found;
     let mut rest = block;
     while rest != 0 {
-        let low = points::lowest(rest);
+        let low = bits::lowest(rest);
         words[n] = first + low;
         froms[n] = i;
         n += 1;
-        rest = points::but_lowest(rest);
+        rest = bits::but_lowest(rest);
     }
     n
 }
 
-// Offers the words that come after `last`, ascending, as found from place i: each that is unseen goes to the queue's end and is unseen no more.
+// Offers the words that come after `last`, ascending, as found from place i: each that may still be entered goes to the queue's end, and
+// may be entered no more.
 // Gives the queue's new length.
 pub fn offer_next(
     follows: &[u64],
@@ -35,16 +36,16 @@ pub fn offer_next(
     found: usize,
     words: &mut [usize],
     froms: &mut [usize],
-    unseen: &mut [u64],
+    enterable: &mut [u64],
 ) -> usize
-    requires { ⌜ Offering (now follows) last found (now words) (now froms) (now unseen) ⌝ }
-    ensures { λ r. ⌜ Offered (now (follows .entry)) last i found (now (words .entry)) (now (froms .entry)) (now (unseen .entry)) (now (words .exit)) (now (froms .exit)) (now (unseen .exit)) r ⌝ }
+    requires { ⌜ Offering (now follows) last found (now words) (now froms) (now enterable) ⌝ }
+    ensures { λ r. ⌜ Offered (now (follows .entry)) last i found (now (words .entry)) (now (froms .entry)) (now (enterable .entry)) (now (words .exit)) (now (froms .exit)) (now (enterable .exit)) r ⌝ }
 {
     let mut n = found;
     let mut k = 0;
     while k < 3 {
-        let next = follows[3 * last + k] & unseen[k];
-        unseen[k] = points::without(unseen[k], next);
+        let next = follows[3 * last + k] & enterable[k];
+        enterable[k] = bits::without(enterable[k], next);
         n = store_block(64 * k, next, i, n, words, froms);
         k += 1;
     }

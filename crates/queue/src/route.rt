@@ -20,7 +20,7 @@ fn route_length(froms: &[usize], place: usize) -> usize
     n
 }
 
-// Stores those words, the last of them before `end`, from the last to the first.
+// Stores the words from place 0 to a place, the last of them right before `end`, from the last to the first.
 fn write_route(words: &[usize], froms: &[usize], place: usize, plan: &mut [u16], end: usize)
     requires { ⌜ Readable (now words) (now froms) place ⌝ }
     requires { ⌜ (length (routeTo (now words) (now froms) place) ≤ end) × (end ≤ length (now plan)) ⌝ }
@@ -37,7 +37,7 @@ fn write_route(words: &[usize], froms: &[usize], place: usize, plan: &mut [u16],
     plan[k] = words[0] as u16;
 }
 
-// Stores an entry of the plan from place k on: the carrier, the count of words, the words. Gives where the next one starts.
+// Stores an entry of the plan from its word k on: the carrier, the count of words, the words. Gives where the next one starts.
 pub fn write_entry(
     carrier: u32,
     place: usize,

@@ -1,8 +1,8 @@
 // What is read off the track: for each word the set of the words that come after it.
+use crate::sets::add;
 ghost use mathlib.Core.Path.{_≡_};
 ghost use Prim.Native.Nat.{_+_, _*_, _≤_, _<_};
 ghost use lib.ListN.{length, replicate};
-use crate::sets::add_word;
 ghost use Rattle.queue.specs.Follows.{Sized, Starts, RowFilled, Follows};
 
 // Puts each word into the row of the point where it starts.
@@ -12,7 +12,7 @@ fn fill_starts(zones: usize, ends: &[usize], starts: &mut [u64])
 {
     let mut w = 0;
     while w < 2 * zones {
-        add_word(192 * ends[w] + w, starts);
+        add(192 * ends[w] + w, starts);
         w += 1;
     }
 }
@@ -25,9 +25,9 @@ fn fill_row(starts: &[u64], point: usize, w: usize, follows: &mut [u64])
     follows[3 * w] = starts[3 * point];
     follows[3 * w + 1] = starts[3 * point + 1];
     follows[3 * w + 2] = starts[3 * point + 2];
-    let own = points::with(points::with(0, 2 * (w / 2) % 64), (2 * (w / 2) + 1) % 64);
+    let own = bits::with(bits::with(0, 2 * (w / 2) % 64), (2 * (w / 2) + 1) % 64);
     let block = 3 * w + w / 64;
-    follows[block] = points::without(follows[block], own);
+    follows[block] = bits::without(follows[block], own);
 }
 
 // Fills the rows of all words.
@@ -47,6 +47,7 @@ pub fn fill_follows(zones: usize, ends: &[usize], follows: &mut [u64])
     requires { ⌜ Sized zones (now ends) × (length (now follows) ≡ 576) ⌝ }
     ensures { λ r. ⌜ Follows zones (2 * zones) (now (ends .entry)) (now (follows .exit)) ⌝ }
 {
+    // Three blocks for each of 64 points.
     let mut starts = [0u64; 192];
     fill_starts(zones, ends, &mut starts);
     fill_rows(zones, ends, &starts, follows);

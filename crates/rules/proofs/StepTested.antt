@@ -2,7 +2,7 @@
 -- Each part of the test against the part of the record that it tests.
 use Prim.Native.Nat.{ℕ, _*_, _<_}
 use mathlib.Core.Path.{_≡_, ap}
-use mathlib.Core.Bool.{Bool, true, not, _&&_, _||_}
+use mathlib.Core.Bool.{Bool, true, not, _&&_}
 use mathlib.Core.Logic.{inl, inr, ⊎-elim}
 use lib.Dec.{eqb}
 use borrow.Author.Tests.{eqb-true, eqb-false, eq-eqb, ne-eqb, not-true}
@@ -10,31 +10,25 @@ use Rattle.model.proofs.BoolLaws.{and-left, and-right, and-both, or-left, or-ri
 use Rattle.model.specs.Track.{Track, zoneOf, start, leave}
 use Rattle.model.specs.Position.{Position, at, carrierOf}
 use Rattle.rules.specs.Routes.{Step}
-use Rattle.rules.specs.Key.{steps}
-
--- the carrier may enter zone z: it is free, or its own
-mayEnter : Position → ℕ → ℕ → Bool
-mayEnter p c z = eqb (at p z) 0 || eqb (carrierOf (at p z)) c
+use Rattle.rules.specs.Key.{mayEnter, steps}
 
 pub step-of-test : (t : Track) (p : Position) (c w v : ℕ) → v < 2 * t .zones → steps t p c w v ≡ true → Step t p c w v
-unfolding mayEnter
 step-of-test t p c w v below test =
     record {
       word = below;
-      touches = eqb-true (start t v) (leave t w) (and-left (eqb (start t v) (leave t w)) (not same && mayEnter p c (zoneOf v)) test);
-      another = eqb-false (zoneOf v) (zoneOf w) (not-true same (and-left (not same) (mayEnter p c (zoneOf v)) rest));
-      clear = ⊎-elim (λ h. inl (eqb-true (at p (zoneOf v)) 0 h)) (λ h. inr (eqb-true (carrierOf (at p (zoneOf v))) c h)) (or-cases (eqb (at p (zoneOf v)) 0) (eqb (carrierOf (at p (zoneOf v))) c) (and-right (not same) (mayEnter p c (zoneOf v)) rest));
+      touches = eqb-true (start t v) (leave t w) (and-left (eqb (start t v) (leave t w)) (not same && mayEnter p c v) test);
+      another = eqb-false (zoneOf v) (zoneOf w) (not-true same (and-left (not same) (mayEnter p c v) rest));
+      clear = ⊎-elim (λ h. inl (eqb-true (at p (zoneOf v)) 0 h)) (λ h. inr (eqb-true (carrierOf (at p (zoneOf v))) c h)) (or-cases (eqb (at p (zoneOf v)) 0) (eqb (carrierOf (at p (zoneOf v))) c) (and-right (not same) (mayEnter p c v) rest));
     }
   where
     same : Bool
     same = eqb (zoneOf v) (zoneOf w)
 
-    rest : (not same && mayEnter p c (zoneOf v)) ≡ true
-    rest = and-right (eqb (start t v) (leave t w)) (not same && mayEnter p c (zoneOf v)) test
+    rest : (not same && mayEnter p c v) ≡ true
+    rest = and-right (eqb (start t v) (leave t w)) (not same && mayEnter p c v) test
 
 pub test-of-step : (t : Track) (p : Position) (c w v : ℕ) → Step t p c w v → steps t p c w v ≡ true
-unfolding mayEnter
 test-of-step t p c w v s =
-    and-both (eqb (start t v) (leave t w)) (not (eqb (zoneOf v) (zoneOf w)) && mayEnter p c (zoneOf v)) (eq-eqb (start t v) (leave t w) (s .touches))
-    (and-both (not (eqb (zoneOf v) (zoneOf w))) (mayEnter p c (zoneOf v)) (ap not (ne-eqb (zoneOf v) (zoneOf w) (s .another)))
+    and-both (eqb (start t v) (leave t w)) (not (eqb (zoneOf v) (zoneOf w)) && mayEnter p c v) (eq-eqb (start t v) (leave t w) (s .touches))
+    (and-both (not (eqb (zoneOf v) (zoneOf w))) (mayEnter p c v) (ap not (ne-eqb (zoneOf v) (zoneOf w) (s .another)))
     (⊎-elim (λ h. or-left (eqb (at p (zoneOf v)) 0) (eqb (carrierOf (at p (zoneOf v))) c) (eq-eqb (at p (zoneOf v)) 0 h)) (λ h. or-right (eqb (at p (zoneOf v)) 0) (eqb (carrierOf (at p (zoneOf v))) c) (eq-eqb (carrierOf (at p (zoneOf v))) c h)) (s .clear)))

@@ -16,7 +16,7 @@ use Rattle.rules.specs.Search.{leastFrom}
 abbrev pub mayEnter : Position → ℕ → ℕ → Bool
 mayEnter p c v = eqb (at p (zoneOf v)) 0 || eqb (carrierOf (at p (zoneOf v))) c
 
--- and in another zone than word w
+-- word v is in another zone than word w, one that is free to carrier c
 abbrev pub mayFollow : Position → ℕ → ℕ → ℕ → Bool
 mayFollow p c w v = not (eqb (zoneOf v) (zoneOf w)) && mayEnter p c v
 
@@ -24,7 +24,7 @@ mayFollow p c w v = not (eqb (zoneOf v) (zoneOf w)) && mayEnter p c v
 abbrev pub steps : Track → Position → ℕ → ℕ → ℕ → Bool
 steps t p c w v = eqb (start t v) (leave t w) && mayFollow p c w v
 
--- the words that may follow w, ascending
+-- the words that carrier c may go to from word w, ascending
 unfoldable pub nexts : Track → Position → ℕ → ℕ → List ℕ
 nexts t p c w = keep (steps t p c w) (below (2 * t .zones))
 

@@ -1,4 +1,4 @@
--- At the start of a carrier's search the unseen words are those of the free zones and its own zone the other way: all that it may enter, but for its standing.
+-- At the start of a carrier's search the enterable words are those of the free zones and its own zone the other way: all that it may enter, but for its standing.
 -- In its own zone a word is its standing or the other way; in another zone it may enter just where nobody stands, since it stands in one zone only.
 use Prim.Native.Nat.{ℕ, _+_, _*_, _<_}
 use mathlib.Core.Path.{_≡_, refl, sym, _∙_, ap, ap₂}
@@ -7,12 +7,12 @@ use mathlib.Core.Bool.{Bool, true, false, not, _&&_, _||_, and-true}
 use native.Mathlib.Omega.{arith}
 use lib.ListN.{length, getD}
 use lib.Dec.{eqb}
-use borrow.Author.Tests.{eqb-true, eqb-false, eq-eqb, ne-eqb}
+use borrow.Author.Tests.{eqb-true, eqb-false, eq-eqb, ne-eqb, lt-ltb}
 use Rattle.model.specs.Track.{zoneOf, headingOf, rev}
 use Rattle.model.specs.Position.{Position, at, carrierOf, isFree, Once}
 use Rattle.model.proofs.PositionLaws.{held-stands}
 use Rattle.rules.specs.Key.{mayEnter}
-use Rattle.queue.specs.WordSets.{hasWord, WordAdded, FreeWords}
+use Rattle.queue.specs.WordSets.{inSet, Added, FreeWords}
 
 -- a list of three numbers is known by them
 pub three : (l : List ℕ) → length l ≡ 3 → (getD l 0 0 ∷ getD l 1 0 ∷ getD l 2 0 ∷ []) ≡ l
@@ -39,7 +39,7 @@ module _ (p : Position) (once : Once p) (zone : ℕ) (inside : zone < length p) 
           let word : 2 * z + headingOf (at p z) ≡ standing = once carrier (2 * z + headingOf (at p z)) standing (rw (sym e) (held-stands p z h number)) (held-stands p zone inside numbered) in
           omega arith
 
-  -- the words unseen at first
+  -- the words enterable at first
   enters : (v : ℕ) → zoneOf v < length p → (isFree p (zoneOf v) || eqb v (rev standing)) ≡ (mayEnter p carrier v && not (eqb v standing))
   enters v h = go (eqb (zoneOf v) zone) refl
     where
@@ -62,6 +62,6 @@ module _ (p : Position) (once : Once p) (zone : ℕ) (inside : zone < length p) 
           ap (λ (b : Bool). isFree p (zoneOf v) || b) (ne-eqb v (rev standing) (λ f. d (omega arith)) ∙ sym (elsewhere (zoneOf v) h d)) ∙
           sym (ap (λ (b : Bool). mayEnter p carrier v && not b) (ne-eqb v standing (λ f. d (omega arith))) ∙ and-true (mayEnter p carrier v))
 
-  pub first-unseen : {free unseen : List ℕ} → FreeWords p free → {w : ℕ} → w ≡ rev standing → WordAdded w free unseen → (v : ℕ) → zoneOf v < length p
-      → hasWord unseen v ≡ (mayEnter p carrier v && not (eqb v standing))
-  first-unseen f e a v h = a .has v ∙ ap₂ (λ (s : Bool) (x : ℕ). s || eqb v x) (f .has v h) e ∙ enters v h
+  pub first-enterable : {free enterable : List ℕ} → FreeWords p free → {w : ℕ} → w ≡ rev standing → Added w free enterable → (v : ℕ) → zoneOf v < length p
+      → inSet enterable v ≡ (mayEnter p carrier v && not (eqb v standing))
+  first-enterable f e a v h = a .has v ∙ ap₂ (λ (s : Bool) (x : ℕ). s || eqb v x) (f .has v ∙ ap (λ (b : Bool). b && isFree p (zoneOf v)) (lt-ltb (zoneOf v) (length p) h)) e ∙ enters v h

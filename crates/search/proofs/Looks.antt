@@ -19,17 +19,18 @@ use Rattle.least.specs.Queue.{Queue, Found, offerAll, searchOn, searchFrom, way
 use Rattle.least.proofs.SearchLaws.{search-past, search-goal, search-on, search-from}
 use Rattle.least.proofs.BreadthFirst.{search-least}
 use Rattle.order.proofs.Steps.{nexts-ascending, nexts-below}
-use Rattle.queue.specs.WordSets.{hasWord}
+use Rattle.queue.specs.WordSets.{inSet}
 use Rattle.queue.specs.Offers.{Offered}
-use Rattle.queue.specs.Searching.{Tables, queueIn, Queued}
+use Rattle.queue.specs.Follows.{BoardTable}
+use Rattle.queue.proofs.Queued.{queueIn, Queued}
 use Rattle.queue.specs.Written.{routeTo}
 use Rattle.queue.proofs.OfferLaws.{offered-queued, offered-later, offered-queue}
 use Rattle.queue.proofs.QueueArrays.{queued-most, queue-size, queue-word, route-in, queued-one}
 use Rattle.search.specs.Leaving.{homeTrack}
 
 -- the search of one carrier, at place i
-pub record Looking (home zones : ℕ) (ends p : List ℕ) (c standing : ℕ) (words₀ froms₀ words froms unseen : List ℕ) (n i : ℕ) : Type 0 where
-  pub queued : Queued (2 * zones) p c words froms unseen n
+pub record Looking (home zones : ℕ) (ends p : List ℕ) (c standing : ℕ) (words₀ froms₀ words froms enterable : List ℕ) (n i : ℕ) : Type 0 where
+  pub queued : Queued (2 * zones) p c words froms enterable n
   pub low : i ≤ n
   pub same-words : length words ≡ length words₀
   pub same-froms : length froms ≡ length froms₀
@@ -37,11 +38,11 @@ pub record Looking (home zones : ℕ) (ends p : List ℕ) (c standing : ℕ) (wo
       searchOn (nexts (homeTrack home zones ends) p c) (leavesHome (homeTrack home zones ends)) (2 * zones - i) (queueIn words froms n) i ≡
       searchFrom (nexts (homeTrack home zones ends) p c) (leavesHome (homeTrack home zones ends)) (2 * zones) standing
 
-pub looking-starts : (home zones : ℕ) (ends p : List ℕ) (c standing : ℕ) (words froms unseen : List ℕ) → 2 * zones ≤ length words → 2 * zones ≤ length froms → length unseen ≡ 3 → standing < 2 * zones
-    → ((v : ℕ) → v < 2 * zones → hasWord unseen v ≡ (mayEnter p c v && not (eqb v standing)))
-    → Looking home zones ends p c standing (set words 0 standing) (set froms 0 0) (set words 0 standing) (set froms 0 0) unseen 1 0
-looking-starts home zones ends p c standing words froms unseen a b d h marks = record {
-  queued = queued-one (2 * zones) p c words froms unseen standing a b d h marks;
+pub looking-starts : (home zones : ℕ) (ends p : List ℕ) (c standing : ℕ) (words froms enterable : List ℕ) → 2 * zones ≤ length words → 2 * zones ≤ length froms → length enterable ≡ 3 → standing < 2 * zones
+    → ((v : ℕ) → v < 2 * zones → inSet enterable v ≡ (mayEnter p c v && not (eqb v standing)))
+    → Looking home zones ends p c standing (set words 0 standing) (set froms 0 0) (set words 0 standing) (set froms 0 0) enterable 1 0
+looking-starts home zones ends p c standing words froms enterable a b d h enters = record {
+  queued = queued-one (2 * zones) p c words froms enterable standing a b d h enters;
   low = omega arith;
   same-words = refl;
   same-froms = refl;
@@ -51,8 +52,8 @@ looking-starts home zones ends p c standing words froms unseen a b d h marks = r
       sym (search-from (nexts (homeTrack home zones ends) p c) (leavesHome (homeTrack home zones ends)) (2 * zones) standing);
 }
 
-module _ {home zones : ℕ} {ends p : List ℕ} {c standing : ℕ} {words₀ froms₀ words froms unseen : List ℕ} {n i : ℕ}
-    (l : Looking home zones ends p c standing words₀ froms₀ words froms unseen n i) where
+module _ {home zones : ℕ} {ends p : List ℕ} {c standing : ℕ} {words₀ froms₀ words froms enterable : List ℕ} {n i : ℕ}
+    (l : Looking home zones ends p c standing words₀ froms₀ words froms enterable n i) where
   abbrev t : Track
   t = homeTrack home zones ends
 
@@ -84,12 +85,12 @@ module _ {home zones : ℕ} {ends p : List ℕ} {c standing : ℕ} {words₀ fro
         ends-at s (sym search-here ∙ search-goal (nexts t p c) (leavesHome t) (2 * zones - suc i) q i (rw (queue-size (l .queued)) h) (ap (leavesHome t) (queue-word (l .queued) i h) ∙ eq-eqb _ _ e)) ∙
         ap some (route-in (l .queued) i h)
 
-    module _ (e : getD ends (rev (getD words i 0)) 0 ≡ home → ⊥) {follows : List ℕ} (tables : Tables zones ends p follows) {words′ froms′ unseen′ : List ℕ} {r : ℕ}
-        (o : Offered follows (getD words i 0) i n words froms unseen words′ froms′ unseen′ r) (as-words : length words′ ≡ length words) (as-froms : length froms′ ≡ length froms) (as-unseen : length unseen′ ≡ length unseen) where
-      pub looking-more : Looking home zones ends p c standing words₀ froms₀ words′ froms′ unseen′ r (i + 1)
+    module _ (e : getD ends (rev (getD words i 0)) 0 ≡ home → ⊥) {follows : List ℕ} (tables : BoardTable zones ends p follows) {words′ froms′ enterable′ : List ℕ} {r : ℕ}
+        (o : Offered follows (getD words i 0) i n words froms enterable words′ froms′ enterable′ r) (as-words : length words′ ≡ length words) (as-froms : length froms′ ≡ length froms) (as-enterable : length enterable′ ≡ length enterable) where
+      pub looking-more : Looking home zones ends p c standing words₀ froms₀ words′ froms′ enterable′ r (i + 1)
       unfolding nexts
       looking-more = rw add-one record {
-        queued = offered-queued tables looking-word (l .queued) h o as-words as-froms as-unseen;
+        queued = offered-queued tables looking-word (l .queued) h o as-words as-froms as-enterable;
         low = offered-later tables looking-word (l .queued) h o;
         same-words = as-words ∙ l .same-words;
         same-froms = as-froms ∙ l .same-froms;

@@ -3,20 +3,21 @@
 use Prim.Native.Nat.{ℕ, suc, _+_, _-_, _*_, _≤_, _<_}
 use mathlib.Core.Path.{_≡_, refl, sym, _∙_, ap, ap₂, subst, subst₂}
 use mathlib.Core.List.{List, [], _∷_, _++_, append-nil, append-assoc}
-use mathlib.Core.Bool.{Bool, true, false, _||_, or-true, or-false}
+use mathlib.Core.Bool.{Bool, true, false, _&&_, _||_, or-true, or-false}
 use mathlib.Core.Logic.{⊎-elim}
 use native.Mathlib.Omega.{arith}
 use native.Mathlib.Nat.{suc-mul}
 use lib.ListN.{length, take, drop, set, length-append, length-set}
-use lib.Dec.{eqb}
+use lib.Dec.{eqb, ltb}
 use lib.Seq.{take-append-seam, drop-append-add, drop-drop, getD-set-same, getD-set-other}
-use borrow.Author.Tests.{eqb-true, eqb-false, eq-eqb}
+use borrow.Author.Tests.{eqb-true, eqb-false, eq-eqb, lt-ltb}
 use Rattle.model.specs.Track.{Track, zoneOf, headingOf}
 use Rattle.model.specs.Position.{Position, at, carrierOf, isFree, Stands, Once, retire, outs}
+use Rattle.model.proofs.BoolLaws.{and-both}
 use Rattle.model.proofs.WordLaws.{heading-small, zone-word}
 use Rattle.model.proofs.PositionLaws.{once-retire, held-stands, retire-set, outs-retire-length, length-without, without-cases}
 use Rattle.rules.specs.Key.{Run, run, planWords}
-use Rattle.queue.specs.WordSets.{hasWord, ZoneAdded, FreeWords}
+use Rattle.queue.specs.WordSets.{inSet, ZoneAdded, FreeWords}
 use Rattle.queue.specs.Written.{routeTo, entryOf, EntryRoom, EntryWritten}
 use Rattle.least.proofs.PathLaws.{path-length}
 use Rattle.search.specs.Leaving.{homeTrack, Seeking, Sought}
@@ -150,16 +151,20 @@ module _ {home zones : ℕ} {ends follows order : List ℕ} {count : ℕ} {words
 
   -- the zone's words are free then
   freed-words : {free′ : List ℕ} → ZoneAdded zone free free′ → FreeWords (retire carrier p) free′
-  freed-words {free′} a = rw freed record { has = λ v h. has v (rw length-set at h) (eqb (zoneOf v) zone) refl }
+  freed-words {free′} a = rw freed record { has = λ v. has v (eqb (zoneOf v) zone) refl }
     where
-      has : (v : ℕ) → zoneOf v < length p → (t : Bool) → eqb (zoneOf v) zone ≡ t → hasWord free′ v ≡ isFree (set p zone 0) (zoneOf v)
-      has v h true e =
-          a .has v ∙ ap (λ (b : Bool). hasWord free v || b) e ∙ or-true (hasWord free v) ∙
-          sym (eq-eqb _ _ (ap (at (set p zone 0)) (eqb-true (zoneOf v) zone e) ∙ getD-set-same p zone 0 0 goes-inside))
-      has v h false e =
-          a .has v ∙ ap (λ (b : Bool). hasWord free v || b) e ∙ or-false (hasWord free v) ∙
-          u .seeking .free-words .has v h ∙
-          ap (λ (x : ℕ). eqb x 0) (sym (getD-set-other p zone (zoneOf v) 0 0 (eqb-false (zoneOf v) zone e)))
+      same : length (set p zone 0) ≡ length p
+      same = length-set p zone 0
+
+      has : (v : ℕ) (t : Bool) → eqb (zoneOf v) zone ≡ t → inSet free′ v ≡ (ltb (zoneOf v) (length (set p zone 0)) && isFree (set p zone 0) (zoneOf v))
+      has v true e =
+          let here : zoneOf v ≡ zone = eqb-true (zoneOf v) zone e in
+          a .has v ∙ ap (λ (b : Bool). inSet free v || b) e ∙ or-true (inSet free v) ∙
+          sym (and-both _ _ (lt-ltb (zoneOf v) (length (set p zone 0)) (rw (here, same) goes-inside)) (eq-eqb _ _ (ap (at (set p zone 0)) here ∙ getD-set-same p zone 0 0 goes-inside)))
+      has v false e =
+          a .has v ∙ ap (λ (b : Bool). inSet free v || b) e ∙ or-false (inSet free v) ∙
+          u .seeking .free-words .has v ∙
+          ap₂ (λ (n x : ℕ). ltb (zoneOf v) n && eqb x 0) (sym same) (sym (getD-set-other p zone (zoneOf v) 0 0 (eqb-false (zoneOf v) zone e)))
 
   retired-seeking : {free′ : List ℕ} → ZoneAdded zone free free′ → length free′ ≡ length free → Seeking zones ends (retire carrier p) follows free′ order count words′ froms′
   retired-seeking a b = record {

@@ -19,13 +19,13 @@ use Rattle.rules.specs.Key.{nexts, leavesHome, leastRoute, goesElse, firstToGo}
 use Rattle.order.proofs.LeastRoute.{least-at}
 use Rattle.carriers.specs.Order.{carriersIn}
 use Rattle.carriers.proofs.Sorting.{zone-inside}
-use Rattle.queue.specs.WordSets.{WordAdded}
+use Rattle.queue.specs.WordSets.{Added}
 use Rattle.queue.specs.Offers.{Offering}
 use Rattle.queue.proofs.OfferLaws.{offered-room}
 use Rattle.queue.proofs.QueueArrays.{queued-readable}
 use Rattle.search.specs.Leaving.{homeTrack, Seeking, Sought}
 use Rattle.search.specs.declared.Goes.the-variants.{From, Nobody}
-use Rattle.search.proofs.Entering.{three, first-unseen}
+use Rattle.search.proofs.Entering.{three, first-enterable}
 use Rattle.search.proofs.Looks.{Looking, looking-starts, looking-past, looking-few, looking-word, looking-goal}
 
 -- the carriers, with the first k zones tried or free
@@ -137,15 +137,15 @@ module _ {home zones : ℕ} {ends p follows free order : List ℕ} {count : ℕ}
   pub turn-blocks : length free ≡ 3
   turn-blocks = x .next .seeking .blocks
 
-  pub turn-looks : {unseen : List ℕ} {w : ℕ} → w ≡ rev standing → WordAdded w (getD free 0 0 ∷ getD free 1 0 ∷ getD free 2 0 ∷ []) unseen → length unseen ≡ 3
-      → Looking home zones ends p carrier standing (set words 0 standing) (set froms 0 0) (set words 0 standing) (set froms 0 0) unseen 1 0
-  turn-looks {unseen} {w} e a b =
-      let added : WordAdded w free unseen = subst (λ (l : List ℕ). WordAdded w l unseen) (three free turn-blocks) a in
-      looking-starts home zones ends p carrier standing words froms unseen
+  pub turn-looks : {enterable : List ℕ} {w : ℕ} → w ≡ rev standing → Added w (getD free 0 0 ∷ getD free 1 0 ∷ getD free 2 0 ∷ []) enterable → length enterable ≡ 3
+      → Looking home zones ends p carrier standing (set words 0 standing) (set froms 0 0) (set words 0 standing) (set froms 0 0) enterable 1 0
+  turn-looks {enterable} {w} e a b =
+      let added : Added w free enterable = subst (λ (l : List ℕ). Added w l enterable) (three free turn-blocks) a in
+      looking-starts home zones ends p carrier standing words froms enterable
       (omega (arith, x .next .seeking .room-words, x .next .tried .same-words)) (omega (arith, x .next .seeking .room-froms, x .next .tried .same-froms)) b turn-standing
-      (λ v h. first-unseen p (x .next .seeking .once) zone (next-inside (x .next)) turn-numbered (x .next .seeking .free-words) e added v (omega (arith, x .next .seeking .tables .each)))
+      (λ v h. first-enterable p (x .next .seeking .once) zone (next-inside (x .next)) turn-numbered (x .next .seeking .free-words) e added v (omega (arith, x .next .seeking .tables .each)))
 
-  module _ {words′ froms′ unseen : List ℕ} {n i : ℕ} (l : Looking home zones ends p carrier standing (set words 0 standing) (set froms 0 0) words′ froms′ unseen n i) where
+  module _ {words′ froms′ enterable : List ℕ} {n i : ℕ} (l : Looking home zones ends p carrier standing (set words 0 standing) (set froms 0 0) words′ froms′ enterable n i) where
     pub turn-words : length words′ ≡ length words₀
     turn-words = l .same-words ∙ length-set words 0 standing ∙ x .next .tried .same-words
 
@@ -179,7 +179,7 @@ module _ {home zones : ℕ} {ends p follows free order : List ℕ} {count : ℕ}
         };
       }
 
-      pub turn-offers : Offering follows (getD words′ i 0) n words′ froms′ unseen
+      pub turn-offers : Offering follows (getD words′ i 0) n words′ froms′ enterable
       turn-offers = record {
         row = omega (arith, looking-word l b, x .next .seeking .tables .few, x .next .seeking .tables .rows);
         blocks = l .queued .blocks;

@@ -10,7 +10,7 @@ use Rattle.rules.specs.Routes.{Entry}
 use Rattle.rules.specs.Key.{firstToGo}
 use Rattle.search.specs.Order.{InOrder}
 use Rattle.queue.specs.WordSets.{FreeWords}
-use Rattle.queue.specs.Searching.{Tables}
+use Rattle.queue.specs.Follows.{BoardTable}
 use Rattle.queue.specs.Written.{routeTo, Readable}
 use Rattle.search.specs.declared.Goes.{Goes}
 use Rattle.search.specs.declared.Goes.the-variants.{From, Nobody}
@@ -19,10 +19,10 @@ use Rattle.search.specs.declared.Goes.the-variants.{From, Nobody}
 abbrev pub homeTrack : ℕ → ℕ → List ℕ → Track
 homeTrack home zones ends = trackOf 0 home zones ends
 
--- what the search over the carriers asks: no carrier in two zones, no number 1, the table, the words of the free zones, the order, and room
+-- what the search over the carriers asks: no carrier in two zones, no zone that holds number 1, the table, the words of the free zones, the order, and room
 -- for a queue of all words
 pub record Seeking (zones : ℕ) (ends p follows free order : List ℕ) (count : ℕ) (words froms : List ℕ) : Type 0 where
-  pub tables : Tables zones ends p follows
+  pub tables : BoardTable zones ends p follows
   pub blocks : length free ≡ 3
   pub free-words : FreeWords p free
   pub once : Once p

@@ -6,20 +6,17 @@ use lib.ListN.{length}
 use Rattle.model.specs.Lists.{overwritten}
 use Rattle.model.specs.Track.{Track, trackOf}
 use Rattle.model.specs.Position.{Position, at, outs}
-use Rattle.model.specs.Accepted.{Laid}
+use Rattle.model.specs.Accepted.{Parsed}
 use Rattle.rules.specs.Key.{run, planWords}
 use Rattle.search.specs.Leaving.{Seeking}
 
--- a position laid on a track of the sizes of document 01, carriers of 16 bits, and room for the plan of all of them
-pub record Ready (points home zones : ℕ) (ends p plan : List ℕ) : Type 0 where
-  pub laid : Laid (trackOf points home zones ends) p
-  pub points-most : points ≤ 64
-  pub zones-most : zones ≤ 96
-  pub ends-count : length ends ≡ 2 * zones
+-- what `Parsed` says, carriers of 16 bits, and room for the plan of all of them
+pub record Sendable (points home zones : ℕ) (ends p plan : List ℕ) : Type 0 where
+  pub parsed : Parsed (trackOf points home zones ends) p
   pub numbers : (z : ℕ) → at p z < 131072
   pub room : length (outs p) * (2 + 2 * zones) ≤ length plan
 
--- the same with the table and the set made and the zones in order: what the rounds ask
+-- the same with the table and the set of the free zones' words made and the zones in order: what the rounds ask
 pub record Prepared (zones : ℕ) (ends p follows free order : List ℕ) (count : ℕ) (words froms plan : List ℕ) : Type 0 where
   pub seeking : Seeking zones ends p follows free order count words froms
   pub counted : count ≡ length (outs p)

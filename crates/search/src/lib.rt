@@ -1,7 +1,7 @@
 // The key's search: while any carrier can go home, the lowest-numbered that can leaves next, by its least route.
 ghost use lib.ListN.{length};
 ghost use Rattle.search.specs.Leaving.{Seeking, Sought};
-ghost use Rattle.search.specs.Sending.{Ready, Prepared, SentHome};
+ghost use Rattle.search.specs.Sending.{Sendable, Prepared, SentHome};
 
 // The zone of the carrier that can go, and the place in the queue of the last word of its route; or none can.
 pub enum Goes {
@@ -37,8 +37,9 @@ fn first_to_go(
             continue;
         }
         let standing = 2 * zone + (held % 2) as usize;
-        let mut unseen = [free[0], free[1], free[2]];
-        queue::sets::add_word(words::reverse(standing), &mut unseen);
+        // What it may enter and has not found: the words of the free zones, and its own zone the other way, which is free once left.
+        let mut enterable = [free[0], free[1], free[2]];
+        queue::sets::add(words::reverse(standing), &mut enterable);
         words[0] = standing;
         froms[0] = 0;
         let mut found = 1;
@@ -48,14 +49,14 @@ fn first_to_go(
             if words::leaving(ends, w) == home {
                 break 'carriers Goes::From(zone, i);
             }
-            found = queue::offers::offer_next(follows, w, i, found, words, froms, &mut unseen);
+            found = queue::offers::offer_next(follows, w, i, found, words, froms, &mut enterable);
             i += 1;
         }
     }
 }
 
 // One round after another: the carrier that leaves next is taken off, its zone is free and its entry is stored, while any can go. Gives the
-// count of words stored.
+// count of words stored. The contract's count of points is 0, for no route depends on it.
 fn send_all(
     home: usize,
     ends: &[usize],
@@ -71,9 +72,9 @@ fn send_all(
     requires { ⌜ Prepared (length (now position)) (now ends) (now position) (now follows) (now free) (now order) count (now words) (now froms) (now plan) ⌝ }
     ensures { λ r. ⌜ SentHome 0 home (length (now (position .entry))) (now (ends .entry)) (now (position .entry)) (now (plan .entry)) (now (position .exit)) (now (plan .exit)) r ⌝ }
 {
-    let mut left = count;
+    let mut out = count;
     let mut at = 0;
-    while 0 < left {
+    while 0 < out {
         let goes = first_to_go(
             home,
             ends,
@@ -91,7 +92,7 @@ fn send_all(
         at = queue::route::write_entry(position[zone] / 2, place, words, froms, plan, at);
         position[zone] = 0;
         queue::sets::add_zone(zone, free);
-        left -= 1;
+        out -= 1;
     }
     at
 }
@@ -105,9 +106,10 @@ pub fn send_home(
     position: &mut [u32],
     plan: &mut [u16],
 ) -> usize
-    requires { ⌜ Ready points home zones (now ends) (now position) (now plan) ⌝ }
+    requires { ⌜ Sendable points home zones (now ends) (now position) (now plan) ⌝ }
     ensures { λ r. ⌜ SentHome points home zones (now (ends .entry)) (now (position .entry)) (now (plan .entry)) (now (position .exit)) (now (plan .exit)) r ⌝ }
 {
+    // Three blocks for each of 192 words.
     let mut follows = [0u64; 576];
     queue::tables::fill_follows(zones, ends, &mut follows);
     let mut free = [0u64; 3];

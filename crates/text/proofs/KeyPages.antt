@@ -58,8 +58,8 @@ module _ {t : Track} {p : Position} {plan list plan′ list′ : List ℕ} {out 
     pub can-write : {page : List ℕ} → length plan′ ≡ length plan → length list′ ≡ length list → PAGE ≤ length page → Writable (t .points) (t .zones) out verdict plan′ words list′ count page
     can-write plan-kept list-kept room =
         writable (run t p .plan) plan-written
-        (omega (arith, words-are, plan-room t p (ready .laid), room-small ready {out = length (outs p)} refl, plan-long, plan-kept))
-        (omega (arith, count-is, named-most t p (ready .laid), few-out ready, list-long, list-kept))
+        (omega (arith, words-are, plan-room t p (ready .parsed .laid), room-small ready {out = length (outs p)} refl, plan-long, plan-kept))
+        (omega (arith, count-is, named-most t p (ready .parsed .laid), few-out ready, list-long, list-kept))
         small room
 
     pub page-begun : {before after : List ℕ} {n : ℕ} → Begins (keyPage (t .points) (t .zones) out verdict (entriesIn (take words plan′)) (take count list′)) before after n → Begins (pageFor t p) before after n

@@ -29,25 +29,25 @@ module _ {t : Track} {p : Position} (ready : Ready t p) where
 
   entry-small : (e : Entry) → List·Memᴰ e (run t p .plan) → SmallEntry e
   entry-small e m =
-      let fits = plan-fits t p (ready .laid) e m in
+      let fits = plan-fits t p (ready .parsed .laid) e m in
       record {
-        carrier-small = out-small (leaving-out (run-retires t p (ready .laid)) (Memᴰ·map (λ f. f .carrier) m));
-        words-few = omega (arith, fits .short, ready .zones-most);
-        words-small = λ w k. omega (arith, fits .words-below w k, ready .zones-most);
+        carrier-small = out-small (leaving-out (run-retires t p (ready .parsed .laid)) (Memᴰ·map (λ f. f .carrier) m));
+        words-few = omega (arith, fits .short, ready .parsed .zones-most);
+        words-small = λ w k. omega (arith, fits .words-below w k, ready .parsed .zones-most);
       }
 
   pub small-page : SmallPage t p
   small-page =
       let few = few-out ready in
       record {
-        points-small = omega (arith, ready .points-most);
-        zones-small = omega (arith, ready .zones-most);
+        points-small = omega (arith, ready .parsed .points-most);
+        zones-small = omega (arith, ready .parsed .zones-most);
         out-small = omega arith;
         verdict-small = verdict-small (named t p);
-        entries-few = omega (arith, plan-entries t p (ready .laid));
+        entries-few = omega (arith, plan-entries t p (ready .parsed .laid));
         entries-small = entry-small;
-        blocked-few = omega (arith, named-most t p (ready .laid));
-        blocked-small = λ c m. out-small (named-out t p (ready .laid) m);
+        blocked-few = omega (arith, named-most t p (ready .parsed .laid));
+        blocked-small = λ c m. out-small (named-out t p (ready .parsed .laid) m);
       }
 
 -- so every page fits

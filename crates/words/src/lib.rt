@@ -1,4 +1,4 @@
-// Words in code: the point where one leaves, and whether one may follow another.
+// Words in code: the same zone the other way, the point where a word leaves, and whether one may follow another.
 ghost use mathlib.Core.Path.{_≡_};
 ghost use Prim.Native.Nat.{_/_, _<_};
 ghost use lib.ListN.{length, getD};

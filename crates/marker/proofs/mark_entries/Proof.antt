@@ -28,7 +28,7 @@ loop-holds : tie.Need-loop-holds Inv-loop μ-loop
 loop-holds c = let s = c .before .before .before in begins (s .pre .0) (s .pre .1)
 
 mark-entry-requires : tie.Need-mark-entry-requires Inv-loop μ-loop
-mark-entry-requires c κs = (c .before .before .loop .inv .ready, c .before .loop-test .taken)
+mark-entry-requires c κs = (c .before .before .loop .inv .markable, c .before .loop-test .taken)
 
 same-length : tie.Need-same-length Inv-loop μ-loop
 same-length c = stays (c .before)

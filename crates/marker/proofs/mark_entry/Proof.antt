@@ -4,7 +4,7 @@ use Prim.Native.Nat.{_+_, _*_, _<_}
 use mathlib.Core.Path.{refl}
 use native.Mathlib.Omega.{arith}
 use lib.ListN.{length-set}
-use Rattle.marker.specs.Marked.{Ready}
+use Rattle.marker.specs.Marked.{Markable}
 use Rattle.marker.proofs.EntryLaws.{Whole, short-fails, empty-fails, past-fails, out-fails, standing-fails, route-fails, route-passes, stands-below, standing}
 use Rattle.marker.proofs.mark_entry.Statement.{statement}
 use Rattle.marker.proofs.mark_entry.Tie as tie
@@ -17,8 +17,8 @@ abbrev start : tie.Else4 → tie.Start
 start c = c .before .before .before .before .before .before .before .before .before .before .before .before
 
 -- past the standing's test
-ready : (c : tie.Else4) → Ready (start c .args .zones) (start c .args .ends .now) (start c .args .position .now)
-ready c = start c .pre .0
+markable : (c : tie.Else4) → Markable (start c .args .zones) (start c .args .ends .now) (start c .args .position .now)
+markable c = start c .pre .0
 
 below : (c : tie.Else4) → standing (start c .args .sheet .now) (start c .args .place) < 2 * start c .args .zones
 below c = stands-below _ _ _ _ (c .before .stands .ensures) (c .if4 .left)
@@ -99,42 +99,30 @@ add-end c = omega arith
 add-end-2 : tie.Need-add-end-2
 add-end-2 c = omega arith
 
-mul-mark-route : tie.Need-mul-mark-route
-mul-mark-route c = omega arith
-
-sub-mark-route : tie.Need-sub-mark-route
-sub-mark-route c = omega arith
-
-part-mark-route-start : tie.Need-part-mark-route-start
-part-mark-route-start c = omega arith
-
-part-mark-route-end : tie.Need-part-mark-route-end
-part-mark-route-end c = omega arith
-
 mark-route-requires : tie.Need-mark-route-requires
-mark-route-requires c κs = let d = c .before .before in (ready d, below d)
+mark-route-requires c κs = let d = c .before in (markable d, below d, omega arith, omega arith)
 
 same-length-3 : tie.Need-same-length-3
 same-length-3 c = refl
 
 returns-6 : tie.Need-returns-6
 returns-6 c =
-    let d = c .before .before .before .before in
-    route-fails (whole (d .before .before .before .before .before)) (ready d .each) (d .before .stands .ensures) (d .if4 .left) (c .before .mark-route .ensures) (c .if6 .taken)
+    let d = c .before .before .before in
+    route-fails (whole (d .before .before .before .before .before)) (markable d .each) (d .before .stands .ensures) (d .if4 .left) (c .before .mark-route .ensures) (c .if6 .taken)
 
 mul-position : tie.Need-mul-position
-mul-position c = let d = c .before .before .before .before in let b = below d in let r = ready d in omega arith
+mul-position c = let d = c .before .before .before in let b = below d in let r = markable d in omega arith
 
 slice-write-position : tie.Need-slice-write-position
-slice-write-position c = let d = c .before .before .before .before in let b = below d in let r = ready d in omega arith
+slice-write-position c = let d = c .before .before .before in let b = below d in let r = markable d in omega arith
 
 same-length-4 : tie.Need-same-length-4
 same-length-4 c = simp length-set
 
 returns-7 : tie.Need-returns-7
 returns-7 c =
-    let d = c .before .before .before .before in
-    route-passes (whole (d .before .before .before .before .before)) (ready d) (d .before .stands .ensures) (d .if4 .left) (c .before .mark-route .ensures) (c .if6 .left)
+    let d = c .before .before .before in
+    route-passes (whole (d .before .before .before .before .before)) (markable d) (d .before .stands .ensures) (d .if4 .left) (c .before .mark-route .ensures) (c .if6 .left)
 
 pub mark-entry-spec : {M : Type 1} → statement M
 mark-entry-spec =
@@ -164,10 +152,6 @@ mark-entry-spec =
     add-from
     add-end
     add-end-2
-    mul-mark-route
-    sub-mark-route
-    part-mark-route-start
-    part-mark-route-end
     mark-route-requires
     same-length-3
     returns-6

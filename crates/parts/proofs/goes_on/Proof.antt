@@ -4,7 +4,7 @@ use mathlib.Core.Path.{sym, ap, _∙_}
 use native.Mathlib.Omega.{arith}
 use borrow.Author.Needs.{needs}
 use borrow.Author.Tests.{not-true, not-false}
-use Rattle.points.specs.Sets.{hasBit}
+use Rattle.bits.specs.Sets.{hasBit}
 use Rattle.parts.proofs.WordWays.{end-inside}
 use Rattle.parts.proofs.OneWord.{goes-over-free, goes-not, goes-back, goes-by-set}
 use Rattle.parts.proofs.goes_on.Statement.{statement}

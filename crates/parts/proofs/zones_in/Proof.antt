@@ -1,98 +1,48 @@
--- `parts::zones_in` meets its contract: it counts the free zones that start in the part.
--- The invariant: n is the count of those below z; one zone more counts or not by its tests. The measure is how many zones are left.
-use Prim.Native.Nat.{ℕ, _+_, _-_, _*_, _≤_}
-use mathlib.Core.Path.{_≡_, refl, sym, ap, _∙_}
-use mathlib.Core.List.{List}
-use mathlib.Core.Logic.{⊎-elim}
-use mathlib.Core.Bool.{Bool, true, false, _&&_}
+-- `parts::zones_in` meets its contract: it gives the sum of the counts of the part's points.
+-- The invariant: n and the sum of the counts of `rest` make the whole sum (laws of StartLaws). The measure is the count of bits of `rest`.
 use native.Mathlib.Omega.{arith}
-use native.Mathlib.Numerals.{add-one}
 use borrow.Author.Needs.{needs}
-use borrow.Author.Tests.{eq-eqb, ne-eqb}
-use denote.Ref.{now}
-use lib.ListN.{getD}
-use Rattle.model.specs.Lists.{below, count}
-use Rattle.model.specs.Position.{at, isFree}
-use Rattle.model.proofs.CountLaws.{count-below, count-below-pass, count-below-skip}
-use Rattle.points.specs.Sets.{hasBit}
+use lib.Count.{ones}
+use Rattle.parts.proofs.StartLaws.{Adding, adding-starts, adding-most, adding-more, adding-fewer, adding-done}
 use Rattle.parts.proofs.zones_in.Statement.{statement}
 use Rattle.parts.proofs.zones_in.Tie as tie
 
--- the zone is free and starts in the part
-abbrev startsIn : List ℕ → List ℕ → ℕ → ℕ → Bool
-startsIn ends p part z = isFree p z && hasBit part (getD ends (2 * z) 0)
-
--- one zone more
-module _ (f : ℕ → Bool) (z n m : ℕ) (counted : n ≡ count f (below z)) where
-  more : f z ≡ true → m ≡ n + 1 → m ≡ count f (below (z + 1))
-  more e k = k ∙ ap (λ (x : ℕ). x + 1) counted ∙ sym (count-below-pass f z e) ∙ ap (λ (x : ℕ). count f (below x)) (sym (add-one z))
-
-  same : f z ≡ false → m ≡ n → m ≡ count f (below (z + 1))
-  same e k = k ∙ counted ∙ sym (count-below-skip f z e) ∙ ap (λ (x : ℕ). count f (below x)) (sym (add-one z))
-
 abbrev Inv-loop : tie.InvT-loop
-Inv-loop zones ends position part n₀ z₀ n z = (z ≤ zones) × (n ≡ count (startsIn ends position part) (below z))
+Inv-loop counts part n₀ rest₀ n rest = Adding counts part n rest
 
 abbrev μ-loop : tie.MeasureT-loop
-μ-loop zones ends position part n₀ z₀ n z = zones - z
+μ-loop counts part n₀ rest₀ n rest = ones rest
 
 loop-holds : tie.Need-loop-holds Inv-loop μ-loop
-loop-holds c = (omega arith, refl)
+loop-holds c = adding-starts _ _ (c .before .fits .part .fits)
 
-mul-if1 : tie.Need-mul-if1 Inv-loop μ-loop
-mul-if1 c = search needs
+lowest-requires : tie.Need-lowest-requires Inv-loop μ-loop
+lowest-requires c κs = search needs
 
-shared-slice-read-if1 : tie.Need-shared-slice-read-if1 Inv-loop μ-loop
-shared-slice-read-if1 c = search needs
+mul-n : tie.Need-mul-n Inv-loop μ-loop
+mul-n c = omega (arith, c .lowest .ensures .inside)
 
-mul-has : tie.Need-mul-has Inv-loop μ-loop
-mul-has c = search needs
-
-mul-has-2 : tie.Need-mul-has-2 Inv-loop μ-loop
-mul-has-2 c = search needs
-
-shared-slice-read-has : tie.Need-shared-slice-read-has Inv-loop μ-loop
-shared-slice-read-has c = search needs
-
-has-requires : tie.Need-has-requires Inv-loop μ-loop
-has-requires c κs =
-    let looping = c .before .before .before .before in
-    looping .before .before .before .pre .inside (2 * looping .loop .z) (omega arith)
+shared-slice-read-n : tie.Need-shared-slice-read-n Inv-loop μ-loop
+shared-slice-read-n c = omega (arith, c .before .lowest .ensures .inside, c .before .before .before .before .before .pre .0)
 
 add-n : tie.Need-add-n Inv-loop μ-loop
-add-n c =
-    let looping = c .before .before .before .before .before .before in
-    let a = looping .before .before .before in
-    omega (arith, count-below (startsIn (now (a .args .ends)) (now (a .args .position)) (a .args .part)) (looping .loop .z), looping .loop .inv .1, a .fits .zones)
+add-n c = omega (arith, adding-most (c .before .before .before .loop .inv) (c .before .lowest .ensures), c .before .before .before .before .before .pre .1)
 
-add-z : tie.Need-add-z Inv-loop μ-loop
-add-z c = search needs
+but-lowest-requires : tie.Need-but-lowest-requires Inv-loop μ-loop
+but-lowest-requires c κs = search needs
 
 loop-less : tie.Need-loop-less Inv-loop μ-loop
-loop-less c = search needs
+loop-less c =
+    let low = c .before .before .lowest .ensures in
+    rw (c .but-lowest .ensures .rest (c .before .before .lowest .result) low) (adding-fewer (c .before .before .before .before .loop .inv) low)
 
 loop-again : tie.Need-loop-again Inv-loop μ-loop
 loop-again c =
-    let looping = c .before .before .before in
-    let a = looping .before .before .before in
-    let p = now (a .args .position) in
-    let z = looping .loop .z in
-    let f = startsIn (now (a .args .ends)) p (a .args .part) in
-    let within : Bool → Bool = λ b. b && hasBit (a .args .part) (getD (now (a .args .ends)) (2 * z) 0) in (
-      omega arith,
-      ⊎-elim
-          (λ k. more f z _ _ (looping .loop .inv .1) (ap within (eq-eqb (at p z) 0 (k .0 .taken)) ∙ sym (k .2 .ensures) ∙ k .3 .taken) (k .4))
-          (⊎-elim
-          (λ k. same f z _ _ (looping .loop .inv .1) (ap within (eq-eqb (at p z) 0 (k .0 .taken)) ∙ sym (k .2 .ensures) ∙ k .3 .left) (k .4))
-          (λ k. same f z _ _ (looping .loop .inv .1) (ap within (ne-eqb (at p z) 0 (k .0 .left))) (k .1)))
-          (c .if1 .came),
-    )
+    let low = c .before .before .lowest .ensures in
+    rw (c .but-lowest .ensures .rest (c .before .before .lowest .result) low) (adding-more (c .before .before .before .before .loop .inv) low)
 
 returns : tie.Need-returns Inv-loop μ-loop
-returns c =
-    let a = c .before .before .before .before in
-    let done : c .before .loop .z ≡ a .args .zones = omega arith in
-    rw done at (c .before .loop .inv .1)
+returns c = adding-done (c .before .loop .inv) (c .loop-test .left)
 
 pub zones-in-spec : {M : Type 1} → statement M
 zones-in-spec =
@@ -101,14 +51,11 @@ zones-in-spec =
     Inv-loop
     μ-loop
     loop-holds
-    mul-if1
-    shared-slice-read-if1
-    mul-has
-    mul-has-2
-    shared-slice-read-has
-    has-requires
+    lowest-requires
+    mul-n
+    shared-slice-read-n
     add-n
-    add-z
+    but-lowest-requires
     loop-less
     loop-again
     returns)

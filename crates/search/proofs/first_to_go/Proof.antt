@@ -12,11 +12,11 @@ use Rattle.search.proofs.first_to_go.Statement.{statement}
 use Rattle.search.proofs.first_to_go.Tie as tie
 
 abbrev Inv-loop : tie.InvT-loop
-Inv-loop home ends position follows free order count words₀ froms₀ k zone held standing unseen₀ found₀ i₀ words froms unseen found i =
-    Looking home (length position) ends position (held / 2) standing words₀ froms₀ words froms unseen found i
+Inv-loop home ends position follows free order count words₀ froms₀ k zone held standing enterable₀ found₀ i₀ words froms enterable found i =
+    Looking home (length position) ends position (held / 2) standing words₀ froms₀ words froms enterable found i
 
 abbrev μ-loop : tie.MeasureT-loop
-μ-loop home ends position follows free order count words₀ froms₀ k zone held standing unseen₀ found₀ i₀ words froms unseen found i = 2 * length position - i
+μ-loop home ends position follows free order count words₀ froms₀ k zone held standing enterable₀ found₀ i₀ words froms enterable found i = 2 * length position - i
 
 abbrev Inv-carriers : tie.InvT-carriers
 Inv-carriers home ends position follows free order count words₀ froms₀ k₀ words froms k = Tried home (length position) ends position order count words₀ froms₀ words froms k
@@ -98,12 +98,12 @@ shared-slice-read-t30 c = omega (arith, turn-blocks (turn (c .before .before .be
 reverse-requires : tie.Need-reverse-requires Inv-loop μ-loop Inv-carriers μ-carriers
 reverse-requires c κs = tt
 
-slice-aggregate-add-word :
-    tie.Need-slice-aggregate-add-word Inv-loop μ-loop Inv-carriers μ-carriers
-slice-aggregate-add-word c = search needs
+slice-aggregate-add :
+    tie.Need-slice-aggregate-add Inv-loop μ-loop Inv-carriers μ-carriers
+slice-aggregate-add c = search needs
 
-add-word-requires : tie.Need-add-word-requires Inv-loop μ-loop Inv-carriers μ-carriers
-add-word-requires c κs = omega (arith, c .before .reverse .ensures, turn-standing (turn (c .before .before .before .before .before)), first (c .before .before .before .before .before) .pre .tables .few)
+add-requires : tie.Need-add-requires Inv-loop μ-loop Inv-carriers μ-carriers
+add-requires c κs = omega (arith, c .before .reverse .ensures, turn-standing (turn (c .before .before .before .before .before)), first (c .before .before .before .before .before) .pre .tables .few)
 
 slice-write-words : tie.Need-slice-write-words Inv-loop μ-loop Inv-carriers μ-carriers
 slice-write-words c = turn-in-words (turn (c .before .before .before .before .before .before .before))
@@ -112,7 +112,7 @@ slice-write-froms : tie.Need-slice-write-froms Inv-loop μ-loop Inv-carriers μ-
 slice-write-froms c = turn-in-froms (turn (c .before .before .before .before .before .before .before))
 
 loop-holds : tie.Need-loop-holds Inv-loop μ-loop Inv-carriers μ-carriers
-loop-holds c = turn-looks (turn (c .before .before .before .before .before .before .before)) (c .before .before .before .reverse .ensures) (c .before .add-word .ensures) (c .before .add-word .kept .1 .0)
+loop-holds c = turn-looks (turn (c .before .before .before .before .before .before .before)) (c .before .before .before .reverse .ensures) (c .before .add .ensures) (c .before .add .kept .1 .0)
 
 carriers-less-2 : tie.Need-carriers-less-2 Inv-loop μ-loop Inv-carriers μ-carriers
 carriers-less-2 c = omega (arith, next-few (turn (held (c .before)) .next))
@@ -137,7 +137,7 @@ offer-next-requires : tie.Need-offer-next-requires Inv-loop μ-loop Inv-carriers
 offer-next-requires c κs = turn-offers (turn (held (c .before .before .before .before .before .before .before))) (c .before .before .before .before .before .before .before .loop .inv) (c .before .before .before .before .before .before .loop-test .taken)
 
 -- after an offering: the head of the inner loop, and that a word was left there
-module _ (c : tie.After-unseen4 Inv-loop μ-loop Inv-carriers μ-carriers) where
+module _ (c : tie.After-enterable4 Inv-loop μ-loop Inv-carriers μ-carriers) where
   abbrev inside : tie.In-loop Inv-loop μ-loop Inv-carriers μ-carriers
   inside = c .before .before .before .before .before .before .before .before .before .before .before .before
 
@@ -201,8 +201,8 @@ first-to-go-spec =
     shared-slice-read-t28
     shared-slice-read-t30
     reverse-requires
-    slice-aggregate-add-word
-    add-word-requires
+    slice-aggregate-add
+    add-requires
     slice-write-words
     slice-write-froms
     loop-holds

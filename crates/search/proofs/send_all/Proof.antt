@@ -11,11 +11,11 @@ use Rattle.search.proofs.send_all.Statement.{statement}
 use Rattle.search.proofs.send_all.Tie as tie
 
 abbrev Inv-loop : tie.InvT-loop
-Inv-loop home ends follows order count words₀ froms₀ free₀ position₀ plan₀ left₀ at₀ words froms free position plan left at =
-    Underway home (length position₀) ends follows order count words₀ froms₀ free₀ position₀ plan₀ words froms free position plan left at
+Inv-loop home ends follows order count words₀ froms₀ free₀ position₀ plan₀ out₀ at₀ words froms free position plan out at =
+    Underway home (length position₀) ends follows order count words₀ froms₀ free₀ position₀ plan₀ words froms free position plan out at
 
 abbrev μ-loop : tie.MeasureT-loop
-μ-loop home ends follows order count words₀ froms₀ free₀ position₀ plan₀ left₀ at₀ words froms free position plan left at = left
+μ-loop home ends follows order count words₀ froms₀ free₀ position₀ plan₀ out₀ at₀ words froms free position plan out at = out
 
 -- the function's entry, from the head of the loop
 abbrev start : tie.At-loop Inv-loop μ-loop → tie.Start Inv-loop μ-loop
@@ -39,7 +39,7 @@ module _ (g : tie.After-goes Inv-loop μ-loop) where
   goes :
       OneGoes (a .args .home) (length (now (a .args .position))) (now (a .args .ends)) (now (a .args .follows)) (now (a .args .order)) (a .args .count)
       (now (a .args .words)) (now (a .args .froms)) (now (a .args .free)) (now (a .args .position)) (now (a .args .plan))
-      (h .loop .words) (h .loop .froms) (h .loop .free) (h .loop .position) (h .loop .plan) (h .loop .left) (h .loop .at)
+      (h .loop .words) (h .loop .froms) (h .loop .free) (h .loop .position) (h .loop .plan) (h .loop .out) (h .loop .at)
       (call .first-to-go .last .1 .1 .1 .1 .1 .1 .1 .0) (call .first-to-go .last .1 .1 .1 .1 .1 .1 .1 .1 .0) (g .goes .given .0 .0) (g .goes .given .0 .1 .0)
   goes = record {
     underway = h .loop .inv;
@@ -99,8 +99,8 @@ slice-write-position c = goes-inside (goes (c .before .before .before .before .b
 add-zone-requires : tie.Need-add-zone-requires Inv-loop μ-loop
 add-zone-requires c κs = (goes-few (goes (c .before .before .before .before .before .before .before .before .before)), goes-blocks (goes (c .before .before .before .before .before .before .before .before .before)))
 
-sub-left : tie.Need-sub-left Inv-loop μ-loop
-sub-left c = goes (c .before .before .before .before .before .before .before .before .before .before .before .before) .some-left
+sub-out : tie.Need-sub-out Inv-loop μ-loop
+sub-out c = goes (c .before .before .before .before .before .before .before .before .before .before .before .before) .some-left
 
 loop-less : tie.Need-loop-less Inv-loop μ-loop
 loop-less c = omega (arith, goes (c .before .before .before .before .before .before .before .before .before .before .before .before) .some-left)
@@ -148,7 +148,7 @@ send-all-spec =
     mul-position
     slice-write-position
     add-zone-requires
-    sub-left
+    sub-out
     loop-less
     loop-again
     same-length-6

@@ -2,7 +2,7 @@
 -- From the contracts of what it calls, with what they ask and give from Prepares.
 use mathlib.Core.Path.{refl}
 use borrow.Author.Needs.{needs}
-use Rattle.search.proofs.Prepares.{ready-sized, ready-prepared, ready-sent}
+use Rattle.search.proofs.Prepares.{sendable-sized, sendable-prepared, sendable-sent}
 use Rattle.search.proofs.send_home.Statement.{statement}
 use Rattle.search.proofs.send_home.Tie as tie
 
@@ -10,7 +10,7 @@ slice-aggregate-fill-follows : tie.Need-slice-aggregate-fill-follows
 slice-aggregate-fill-follows c = search needs
 
 fill-follows-requires : tie.Need-fill-follows-requires
-fill-follows-requires c κs = (ready-sized (c .before .before .before .before .pre), refl)
+fill-follows-requires c κs = (sendable-sized (c .before .before .before .before .pre), refl)
 
 slice-aggregate-add-free : tie.Need-slice-aggregate-add-free
 slice-aggregate-add-free c = search needs
@@ -41,7 +41,7 @@ slice-aggregate-send-all-5 c = search needs
 
 send-all-requires : tie.Need-send-all-requires
 send-all-requires c κs =
-    ready-prepared (c .before .before .before .before .before .before .before .before .before .before .before .before .before .before .before .before .before .before .before .before .before .pre) (c .before .before .before .before .before .before .before .before .before .before .before .before .before .before .before .before .fill-follows .ensures) (c .before .before .before .before .before .before .before .before .before .before .before .before .before .before .before .before .fill-follows .kept .1 .1 .0)
+    sendable-prepared (c .before .before .before .before .before .before .before .before .before .before .before .before .before .before .before .before .before .before .before .before .before .pre) (c .before .before .before .before .before .before .before .before .before .before .before .before .before .before .before .before .fill-follows .ensures) (c .before .before .before .before .before .before .before .before .before .before .before .before .before .before .before .before .fill-follows .kept .1 .1 .0)
     (c .before .before .before .before .before .before .before .before .before .before .before .before .add-free .ensures) (c .before .before .before .before .before .before .before .before .before .before .before .before .add-free .kept .1 .0) (c .before .before .before .before .before .before .before .before .order-carriers .ensures)
 
 same-length : tie.Need-same-length
@@ -51,7 +51,7 @@ same-length-2 : tie.Need-same-length-2
 same-length-2 c = search needs
 
 returns : tie.Need-returns
-returns c = ready-sent (c .before .before .before .before .before .before .before .before .before .before .before .before .before .before .before .before .before .before .before .before .before .before .before .before .before .before .before .before .before .pre) (c .before .before .before .before .before .before .before .send-all .ensures)
+returns c = sendable-sent (c .before .before .before .before .before .before .before .before .before .before .before .before .before .before .before .before .before .before .before .before .before .before .before .before .before .before .before .before .before .pre) (c .before .before .before .before .before .before .before .send-all .ensures)
 
 pub send-home-spec : {M : Type 1} → statement M
 send-home-spec =

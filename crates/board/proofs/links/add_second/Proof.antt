@@ -3,7 +3,7 @@
 use mathlib.Core.Path.{ap}
 use borrow.Author.Needs.{needs}
 use lib.Bits.{bitOr, bitAnd}
-use Rattle.points.proofs.BitLaws.{shifted-one}
+use Rattle.bits.proofs.BitLaws.{shifted-one}
 use Rattle.board.proofs.links.add_second.Statement.{statement}
 use Rattle.board.proofs.links.add_second.Tie as tie
 

@@ -3,25 +3,29 @@
 use Prim.Native.Nat.{_-_}
 use mathlib.Core.Path.{refl}
 use native.Mathlib.Omega.{arith}
-use lib.ListN.{length}
 use Rattle.marker.proofs.RouteLaws.{Following, no-word, no-step, step-on, not-home, at-home}
 use Rattle.marker.proofs.route.mark_route.Statement.{statement}
 use Rattle.marker.proofs.route.mark_route.Tie as tie
 
 abbrev Inv-loop : tie.InvT-loop
-Inv-loop home zones ends position carrier standing words w₀ i₀ w i = Following home zones ends position carrier standing words w i
+Inv-loop home zones ends position carrier standing sheet from end w₀ point₀ i₀ w point i = Following home zones ends position carrier standing sheet from end w point i
 
 abbrev μ-loop : tie.MeasureT-loop
-μ-loop home zones ends position carrier standing words w₀ i₀ w i = length words - i
+μ-loop home zones ends position carrier standing sheet from end w₀ point₀ i₀ w point i = end - i
+
+leaving-requires : tie.Need-leaving-requires Inv-loop μ-loop
+leaving-requires c κs = let a = c .before .before .before in omega (arith, a .pre .0 .ends-count)
 
 loop-holds : tie.Need-loop-holds Inv-loop μ-loop
-loop-holds c = record { within = omega arith; word = omega arith; same = λ points. refl }
+loop-holds c =
+    let a = c .before .before .before .before in
+    record { within = a .pre .2; room = a .pre .3; word = a .pre .1; leaves = c .leaving .ensures; same = λ points. refl }
 
 mul-v : tie.Need-mul-v Inv-loop μ-loop
-mul-v c = omega arith
+mul-v c = omega (arith, c .before .loop .inv .room)
 
 shared-slice-read-v : tie.Need-shared-slice-read-v Inv-loop μ-loop
-shared-slice-read-v c = omega arith
+shared-slice-read-v c = omega (arith, c .before .before .loop .inv .room)
 
 cast-v : tie.Need-cast-v Inv-loop μ-loop
 cast-v c = omega (arith, c .shared-slice-known4 .given (c .before .before .loop .i))
@@ -40,6 +44,9 @@ returns-2 c =
     let d = c .before .before in
     no-step (d .before .before .before .loop .inv) (d .before .before .loop-test .taken) (d .if1 .left) (c .before .may-step .ensures) (c .if2 .taken)
 
+leaving-requires-2 : tie.Need-leaving-requires-2 Inv-loop μ-loop
+leaving-requires-2 c κs = omega arith
+
 add-i : tie.Need-add-i Inv-loop μ-loop
 add-i c = omega arith
 
@@ -48,17 +55,15 @@ loop-less c = omega arith
 
 loop-again : tie.Need-loop-again Inv-loop μ-loop
 loop-again c =
-    let d = c .before .before in
-    step-on (d .before .before .before .loop .inv) (d .before .before .loop-test .taken) (d .if1 .left) (c .before .may-step .ensures) (c .if2 .left)
-
-leaving-requires : tie.Need-leaving-requires Inv-loop μ-loop
-leaving-requires c κs = omega arith
+    let e = c .before in
+    let d = e .before .before in
+    step-on (d .before .before .before .loop .inv) (d .before .before .loop-test .taken) (d .if1 .left) (e .before .may-step .ensures) (e .if2 .left) (c .leaving2 .ensures)
 
 returns-3 : tie.Need-returns-3 Inv-loop μ-loop
-returns-3 c = not-home (c .before .before .before .loop .inv) (c .before .before .loop-test .left) (c .before .leaving .ensures) (c .if3 .taken)
+returns-3 c = not-home (c .before .before .loop .inv) (c .before .loop-test .left) (c .if3 .taken)
 
 returns-4 : tie.Need-returns-4 Inv-loop μ-loop
-returns-4 c = at-home (c .before .before .before .loop .inv) (c .before .before .loop-test .left) (c .before .leaving .ensures) (c .if3 .left)
+returns-4 c = at-home (c .before .before .loop .inv) (c .before .loop-test .left) (c .if3 .left)
 
 pub mark-route-spec : {M : Type 1} → statement M
 mark-route-spec =
@@ -66,6 +71,7 @@ mark-route-spec =
     (tie.spec
     Inv-loop
     μ-loop
+    leaving-requires
     loop-holds
     mul-v
     shared-slice-read-v
@@ -74,9 +80,9 @@ mark-route-spec =
     returns
     may-step-requires
     returns-2
+    leaving-requires-2
     add-i
     loop-less
     loop-again
-    leaving-requires
     returns-3
     returns-4)

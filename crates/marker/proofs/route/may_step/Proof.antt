@@ -1,5 +1,5 @@
--- `marker::route::may_step` meets its contract: the word starts where the last one leaves, and may follow it.
--- The first test decides the rule where it fails; else what is left of it is what `may_follow` answered.
+-- `marker::route::may_step` meets its contract: the word starts at the point, and may follow the last one.
+-- The first test decides where it fails; else what is left is what `may_follow` answered.
 use mathlib.Core.Path.{sym, _∙_}
 use borrow.Author.Needs.{needs}
 use borrow.Author.Tests.{eq-eqb, ne-eqb}
@@ -12,17 +12,14 @@ mul-if1 c = search needs
 shared-slice-read-if1 : tie.Need-shared-slice-read-if1
 shared-slice-read-if1 c = search needs
 
-leaving-requires : tie.Need-leaving-requires
-leaving-requires c κs = search needs
-
 returns : tie.Need-returns
-returns c = simp (ne-eqb _ _ (λ e. c .if1 .taken (e ∙ sym (c .before .leaving .ensures))))
+returns c = simp (ne-eqb _ _ (c .if1 .taken))
 
 may-follow-requires : tie.Need-may-follow-requires
 may-follow-requires c κs = search needs
 
 returns-2 : tie.Need-returns-2
-returns-2 c = c .may-follow .ensures ∙ sym (simp (eq-eqb _ _ (c .before .if1 .left ∙ c .before .before .leaving .ensures)))
+returns-2 c = c .may-follow .ensures ∙ sym (simp (eq-eqb _ _ (c .before .if1 .left)))
 
 pub may-step-spec : {M : Type 1} → statement M
 may-step-spec =
@@ -30,7 +27,6 @@ may-step-spec =
     (tie.spec
     mul-if1
     shared-slice-read-if1
-    leaving-requires
     returns
     may-follow-requires
     returns-2)

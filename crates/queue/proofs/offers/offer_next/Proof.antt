@@ -1,4 +1,4 @@
--- `offer_next` offers the words that come after `last`: the unseen ones are at the queue's end and are unseen no more.
+-- `offer_next` offers the words that come after `last`: the enterable ones are at the queue's end and are enterable no more.
 -- The invariant: with the words of block k on stored from n on, the arrays are as they will be at the end, and below block k the set is done. The measure is 3 - k.
 use Prim.Native.Nat.{_+_, _-_, _*_}
 use native.Mathlib.Omega.{arith}
@@ -7,10 +7,10 @@ use Rattle.queue.proofs.offers.offer_next.Statement.{statement}
 use Rattle.queue.proofs.offers.offer_next.Tie as tie
 
 abbrev Inv-loop : tie.InvT-loop
-Inv-loop follows last i found words₀ froms₀ unseen₀ n₀ k₀ words froms unseen n k = Going follows last i found words₀ froms₀ unseen₀ words froms unseen n k
+Inv-loop follows last i found words₀ froms₀ enterable₀ n₀ k₀ words froms enterable n k = Going follows last i found words₀ froms₀ enterable₀ words froms enterable n k
 
 abbrev μ-loop : tie.MeasureT-loop
-μ-loop follows last i found words₀ froms₀ unseen₀ n₀ k₀ words froms unseen n k = 3 - k
+μ-loop follows last i found words₀ froms₀ enterable₀ n₀ k₀ words froms enterable n k = 3 - k
 
 loop-holds : tie.Need-loop-holds Inv-loop μ-loop
 loop-holds c = going-starts _ _ _ _ _ _ _ (c .before .before .before .before .pre .blocks)
@@ -42,11 +42,11 @@ slice-read-without c = omega arith
 without-requires : tie.Need-without-requires Inv-loop μ-loop
 without-requires c κs = tt
 
-mul-unseen : tie.Need-mul-unseen Inv-loop μ-loop
-mul-unseen c = omega arith
+mul-enterable : tie.Need-mul-enterable Inv-loop μ-loop
+mul-enterable c = omega arith
 
-slice-write-unseen : tie.Need-slice-write-unseen Inv-loop μ-loop
-slice-write-unseen c = omega arith
+slice-write-enterable : tie.Need-slice-write-enterable Inv-loop μ-loop
+slice-write-enterable c = omega arith
 
 mul-store-block : tie.Need-mul-store-block Inv-loop μ-loop
 mul-store-block c = omega arith
@@ -97,8 +97,8 @@ offer-next-spec =
     mul-without
     slice-read-without
     without-requires
-    mul-unseen
-    slice-write-unseen
+    mul-enterable
+    slice-write-enterable
     mul-store-block
     store-block-requires
     add-k

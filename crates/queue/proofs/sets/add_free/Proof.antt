@@ -5,18 +5,18 @@ use mathlib.Core.Logic.{⊎-elim}
 use native.Mathlib.Omega.{arith}
 use borrow.Author.Needs.{needs}
 use lib.ListN.{length}
-use Rattle.queue.proofs.WordSetLaws.{Freed, freed-starts, freed-more, freed-past, freed-done}
+use Rattle.queue.proofs.WordSetLaws.{FreeBelow, free-starts, free-more, free-past, free-done}
 use Rattle.queue.proofs.sets.add_free.Statement.{statement}
 use Rattle.queue.proofs.sets.add_free.Tie as tie
 
 abbrev Inv-loop : tie.InvT-loop
-Inv-loop position set₀ z₀ set z = Freed position set z
+Inv-loop position set₀ z₀ set z = FreeBelow position set z
 
 abbrev μ-loop : tie.MeasureT-loop
 μ-loop position set₀ z₀ set z = length position - z
 
 loop-holds : tie.Need-loop-holds Inv-loop μ-loop
-loop-holds c = freed-starts _ _ (c .before .before .pre)
+loop-holds c = free-starts _ _ (c .before .before .pre)
 
 mul-if1 : tie.Need-mul-if1 Inv-loop μ-loop
 mul-if1 c = omega arith
@@ -38,15 +38,15 @@ loop-again c =
     let looping = c .before .before .before in
     let inside = c .before .before .loop-test .taken in
     ⊎-elim
-    (λ k. rw (k .5) (freed-more (looping .loop .inv) inside (k .0 .taken) (k .2 .kept .1 .0) (k .2 .ensures)))
-    (λ k. rw (k .1) (freed-past (looping .loop .inv) inside (k .0 .left)))
+    (λ k. rw (k .5) (free-more (looping .loop .inv) inside (k .0 .taken) (k .2 .kept .1 .0) (k .2 .ensures)))
+    (λ k. rw (k .1) (free-past (looping .loop .inv) inside (k .0 .left)))
     (c .if1 .came)
 
 same-length : tie.Need-same-length Inv-loop μ-loop
 same-length c = search needs
 
 returns : tie.Need-returns Inv-loop μ-loop
-returns c = freed-done (c .before .loop .inv) (c .loop-test .left)
+returns c = free-done (c .before .loop .inv) (c .loop-test .left)
 
 pub add-free-spec : {M : Type 1} → statement M
 add-free-spec =

@@ -26,20 +26,20 @@ loop-holds c = (omega arith, starts-none _ _ (c .before .before .pre .1))
 mul-loop : tie.Need-mul-loop Inv-loop μ-loop
 mul-loop c = omega arith
 
-mul-add-word : tie.Need-mul-add-word Inv-loop μ-loop
-mul-add-word c = omega arith
+mul-add : tie.Need-mul-add Inv-loop μ-loop
+mul-add c = omega arith
 
-shared-slice-read-add-word : tie.Need-shared-slice-read-add-word Inv-loop μ-loop
-shared-slice-read-add-word c = omega arith
+shared-slice-read-add : tie.Need-shared-slice-read-add Inv-loop μ-loop
+shared-slice-read-add c = omega arith
 
-mul-add-word-2 : tie.Need-mul-add-word-2 Inv-loop μ-loop
-mul-add-word-2 c = omega (arith, inside (c .before))
+mul-add-2 : tie.Need-mul-add-2 Inv-loop μ-loop
+mul-add-2 c = omega (arith, inside (c .before))
 
-add-add-word : tie.Need-add-add-word Inv-loop μ-loop
-add-add-word c = omega (arith, inside (c .before))
+add-add : tie.Need-add-add Inv-loop μ-loop
+add-add c = omega (arith, inside (c .before))
 
-add-word-requires : tie.Need-add-word-requires Inv-loop μ-loop
-add-word-requires c κs = omega (arith, inside (c .before .before), c .before .before .before .loop .inv .1 .long, c .before .before .before .before .before .before .pre .0 .few)
+add-requires : tie.Need-add-requires Inv-loop μ-loop
+add-requires c κs = omega (arith, inside (c .before .before), c .before .before .before .loop .inv .1 .long, c .before .before .before .before .before .before .pre .0 .few)
 
 add-w : tie.Need-add-w Inv-loop μ-loop
 add-w c = omega arith
@@ -51,7 +51,7 @@ loop-again : tie.Need-loop-again Inv-loop μ-loop
 loop-again c =
     let called = c .before .before in
     let looping = called .before .before .before in
-    (omega arith, starts-more (looping .before .loop .inv .1) (omega (arith, looping .loop-test .taken, looping .before .before .before .before .pre .0 .few)) (called .add-word .kept .1 .0) (called .add-word .ensures))
+    (omega arith, starts-more (looping .before .loop .inv .1) (omega (arith, looping .loop-test .taken, looping .before .before .before .before .pre .0 .few)) (called .add .kept .1 .0) (called .add .ensures))
 
 same-length : tie.Need-same-length Inv-loop μ-loop
 same-length c = search needs
@@ -70,11 +70,11 @@ fill-starts-spec =
     μ-loop
     loop-holds
     mul-loop
-    mul-add-word
-    shared-slice-read-add-word
-    mul-add-word-2
-    add-add-word
-    add-word-requires
+    mul-add
+    shared-slice-read-add
+    mul-add-2
+    add-add
+    add-requires
     add-w
     loop-less
     loop-again

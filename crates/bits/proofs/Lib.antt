@@ -1,0 +1,4 @@
+pub mod BitLaws
+pub mod SizeLaws
+pub mod LowestLaws
+pub mod FullLaws

@@ -27,7 +27,7 @@ module _ {t : Track} {p : Position} (laid : Laid t p) where
 
   -- points alike after joining are alike at the end
   at-end : (w : ℕ) → w < 2 * t .zones → label (joined t p) (start t w) ≡ label (joined t p) (leave t w) → InHome t p (start t w) → InHome t p (leave t w)
-  at-end w h e i = sym (sound-all laid .grown .coarser (start t w) (leave t w) (laid .inside w h) (laid .inside (rev w) (rev-below (t .zones) w h)) e) ∙ i
+  at-end w h e i = sym (sound-all laid .further .coarser (start t w) (leave t w) (laid .inside w h) (laid .inside (rev w) (rev-below (t .zones) w h)) e) ∙ i
 
   merged-behind : (c w : ℕ) → Stands p c w → InHome t p (leave t w) → InHome t p (start t w)
   merged-behind c w s i =

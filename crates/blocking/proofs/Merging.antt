@@ -36,15 +36,15 @@ pub record Sized (t : Track) (m : Merging) : Type 0 where
   pub marks-sized : length (m .merged) ≡ t .zones
 
 -- what was alike is alike, what was marked is marked
-pub record Grown (t : Track) (m n : Merging) : Type 0 where
+pub record MergedFurther (t : Track) (m n : Merging) : Type 0 where
   pub coarser : (r s : ℕ) → r < t .points → s < t .points → Alike m r s → Alike n r s
   pub still-marked : (z : ℕ) → marked m z ≡ true → marked n z ≡ true
 
-pub grown-same : (t : Track) (m : Merging) → Grown t m m
-grown-same t m = record { coarser = λ r s hr hs e. e; still-marked = λ z e. e }
+pub further-same : (t : Track) (m : Merging) → MergedFurther t m m
+further-same t m = record { coarser = λ r s hr hs e. e; still-marked = λ z e. e }
 
-pub grown-more : {t : Track} {l m n : Merging} → Grown t l m → Grown t m n → Grown t l n
-grown-more a b =
+pub further-more : {t : Track} {l m n : Merging} → MergedFurther t l m → MergedFurther t m n → MergedFurther t l n
+further-more a b =
     record {
       coarser = λ r s hr hs e. b .coarser r s hr hs (a .coarser r s hr hs e);
       still-marked = λ z e. b .still-marked z (a .still-marked z e);
@@ -111,8 +111,8 @@ module _ {t : Track} {p : Position} (laid : Laid t p) where
     after-home =
         same-join (m .labels) (start t (standing p z)) (t .home) (start t (standing p z)) (t .home) (in-labels (start t (standing p z)) (starts-in z h)) (in-labels (t .home) (laid .home-in)) (inr (inl refl, inr refl))
 
-    after-grown : Grown t m (after t p m z)
-    after-grown = record { coarser = after-alike; still-marked = λ x e. by x e (eqb x z) refl }
+    after-further : MergedFurther t m (after t p m z)
+    after-further = record { coarser = after-alike; still-marked = λ x e. by x e (eqb x z) refl }
       where
         by : (x : ℕ) → marked m x ≡ true → (b : Bool) → eqb x z ≡ b → marked (after t p m z) x ≡ true
         by x e true q = subst (λ (y : ℕ). marked (after t p m z) y ≡ true) (sym (eqb-true x z q)) after-marked
@@ -125,7 +125,7 @@ before t p = record { labels = joined t p; merged = replicate (t .zones) false }
 -- what holds after any merging: like labels of the joined parts are alike, a marked zone is held and has both ends in home's part
 pub record Sound (t : Track) (p : Position) (m : Merging) : Type 0 where
   pub sized : Sized t m
-  pub grown : Grown t (before t p) m
+  pub further : MergedFurther t (before t p) m
   pub held : (z : ℕ) → z < t .zones → marked m z ≡ true → isFree p z ≡ false
   pub leaves-home : (z : ℕ) → z < t .zones → marked m z ≡ true → Alike m (leave t (standing p z)) (t .home)
   pub starts-home : (z : ℕ) → z < t .zones → marked m z ≡ true → Alike m (start t (standing p z)) (t .home)
@@ -145,7 +145,7 @@ module _ {t : Track} {p : Position} (laid : Laid t p) where
   sound-before =
       record {
         sized = record { labels-sized = joined-length laid; marks-sized = length-replicate (t .zones) false };
-        grown = grown-same t (before t p);
+        further = further-same t (before t p);
         held = λ z h e. unmarked z h e;
         leaves-home = λ z h e. unmarked z h e;
         starts-home = λ z h e. unmarked z h e;
@@ -169,7 +169,7 @@ module _ {t : Track} {p : Position} (laid : Laid t p) where
       merged leads =
           record {
             sized = after-sized laid m z h (s .sized);
-            grown = grown-more (s .grown) (after-grown laid m z h (s .sized));
+            further = further-more (s .further) (after-further laid m z h (s .sized));
             held = each-marked (λ x. isFree p x ≡ false) (leads-held laid m z leads) (s .held);
             leaves-home =
                 each-marked (λ x. Alike (after t p m z) (leave t (standing p x)) (t .home)) (now (leave t (standing p z)) (leaves-in laid z h) (leads-alike laid m z leads))
@@ -186,8 +186,8 @@ module _ {t : Track} {p : Position} (laid : Laid t p) where
   unfolding mergeAll
   sound-all = times-keeps (Sound t p) (round t p) sound-round (length (outs p)) (before t p) sound-before
 
-  pub grown-merge : (m : Merging) (z : ℕ) → z < t .zones → Sound t p m → Grown t m (mergeZone t p m z)
-  grown-merge m z h s = merge-cases t p (Grown t m) m z (grown-same t m) (λ leads. after-grown laid m z h (s .sized))
+  pub further-merge : (m : Merging) (z : ℕ) → z < t .zones → Sound t p m → MergedFurther t m (mergeZone t p m z)
+  further-merge m z h s = merge-cases t p (MergedFurther t m) m z (further-same t m) (λ leads. after-further laid m z h (s .sized))
 
   -- a closed set parts no like labels
   module _ (S : ℕ → Type 0) (closed : Closed t p S) where

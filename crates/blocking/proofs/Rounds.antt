@@ -21,7 +21,7 @@ use Rattle.model.proofs.AscendingLaws.{length-ascending}
 use Rattle.model.proofs.PlaceLaws.{map-ext, getD-map-below}
 use Rattle.model.proofs.PositionLaws.{laid-numbered}
 use Rattle.rules.specs.Collapse.{Merging, leadsHome, mergeIf, mergeZone, mergeAll}
-use Rattle.blocking.proofs.Merging.{marked, Grown, grown-same, grown-more, Sound, before, sound-before, after, after-marked, merge-cases, leads-held, leads-alike, alike-leads, leaves-in, round, sound-merge, sound-round, grown-merge}
+use Rattle.blocking.proofs.Merging.{marked, MergedFurther, further-same, further-more, Sound, before, sound-before, after, after-marked, merge-cases, leads-held, leads-alike, alike-leads, leaves-in, round, sound-merge, sound-round, further-merge}
 
 -- every zone that leads home is marked
 abbrev pub Settled : Track → Position → Merging → Type 0
@@ -67,10 +67,10 @@ module _ {t : Track} {p : Position} (laid : Laid t p) where
   unfolding mergeZone
   merge-marks m z h s leads = ap (λ (b : Bool). marked (mergeIf t p b m z) z) leads ∙ after-marked laid m z h (s .sized)
 
-  grown-fold : (l : List ℕ) → ((x : ℕ) → List·Memᴰ x l → x < t .zones) → (m : Merging) → Sound t p m → Grown t m (foldLeft (mergeZone t p) m l)
-  grown-fold l small m s =
-      foldLeft-keeps (λ n. Sound t p n × Grown t m n) (mergeZone t p) l
-      (λ n z i k. (sound-merge laid n z (small z i) (k .0), grown-more (k .1) (grown-merge laid n z (small z i) (k .0)))) m (s, grown-same t m) .1
+  further-fold : (l : List ℕ) → ((x : ℕ) → List·Memᴰ x l → x < t .zones) → (m : Merging) → Sound t p m → MergedFurther t m (foldLeft (mergeZone t p) m l)
+  further-fold l small m s =
+      foldLeft-keeps (λ n. Sound t p n × MergedFurther t m n) (mergeZone t p) l
+      (λ n z i k. (sound-merge laid n z (small z i) (k .0), further-more (k .1) (further-merge laid n z (small z i) (k .0)))) m (s, further-same t m) .1
 
   fold-marks : (l : List ℕ) → ((x : ℕ) → List·Memᴰ x l → x < t .zones) → (z : ℕ) → List·Memᴰ z l → (m : Merging) → Sound t p m → leadsHome t p (m .labels) z ≡ true → marked (foldLeft (mergeZone t p) m l) z ≡ true
   fold-marks [] small z i m s leads = absurd (List·Memᴰ·not-nil i)
@@ -85,11 +85,11 @@ module _ {t : Track} {p : Position} (laid : Laid t p) where
       still : leadsHome t p (mergeZone t p m a .labels) z ≡ true
       still =
           alike-leads laid (mergeZone t p m a) z (leads-held laid m z leads)
-          (grown-merge laid m a (small a (List·Memᴰ·head refl)) s .coarser (leave t (standing p z)) (t .home) (leaves-in laid z in-zones) (laid .home-in) (leads-alike laid m z leads))
+          (further-merge laid m a (small a (List·Memᴰ·head refl)) s .coarser (leave t (standing p z)) (t .home) (leaves-in laid z in-zones) (laid .home-in) (leads-alike laid m z leads))
 
       by : (z ≡ a) ⊎ List·Memᴰ z l → (List·Memᴰ z l → marked (foldLeft (mergeZone t p) (mergeZone t p m a) l) z ≡ true) → marked (foldLeft (mergeZone t p) (mergeZone t p m a) l) z ≡ true
       by (inl e) rest =
-          grown-fold l (λ x k. small x (List·Memᴰ·tail k)) (mergeZone t p m a) next .still-marked z
+          further-fold l (λ x k. small x (List·Memᴰ·tail k)) (mergeZone t p m a) next .still-marked z
           (subst (λ (x : ℕ). marked (mergeZone t p m x) z ≡ true) e (merge-marks m z in-zones s leads))
       by (inr j) rest = rest j
 
@@ -100,13 +100,13 @@ module _ {t : Track} {p : Position} (laid : Laid t p) where
       new : ℕ → Bool
       new z = leadsHome t p (m .labels) z && not (marked m z)
 
-      grown : Grown t m (round t p m)
-      grown = grown-fold (below (t .zones)) (λ x i. mem-below (t .zones) i) m s
+      further : MergedFurther t m (round t p m)
+      further = further-fold (below (t .zones)) (λ x i. mem-below (t .zones) i) m s
 
       waited : (z : ℕ) → List·Memᴰ z (below (t .zones)) → waits t p (round t p m) z ≡ true → waits t p m z ≡ true
       waited z i e =
           let open-now : marked (round t p m) z ≡ false = not-true (marked (round t p m) z) (and-right (not (isFree p z)) (not (marked (round t p m) z)) e) in
-          let open-before : marked m z ≡ false = not-true-false (marked m z) (λ q. both-ways (grown .still-marked z q) open-now) in
+          let open-before : marked m z ≡ false = not-true-false (marked m z) (λ q. both-ways (further .still-marked z q) open-now) in
           and-both (not (isFree p z)) (not (marked m z)) (and-left (not (isFree p z)) (not (marked (round t p m) z)) e) (ap not open-before)
 
       by : (any new (below (t .zones)) ≡ true) ⊎ (any new (below (t .zones)) ≡ false) → Settled t p m ⊎ (waiting t p (round t p m) < waiting t p m)

@@ -11,7 +11,7 @@ use lib.ListN.{length}
 use Rattle.model.specs.Lists.{Ascending}
 use Rattle.least.specs.Queue.{Queue, inQueue, offer, offerAll}
 use Rattle.least.proofs.QueueLaws.{size, wordAt, fromAt, startQueue, added, added-places, offer-cases, offerAll-cons, offerAll-none, in-place}
-use Rattle.least.proofs.ProperQueue.{Grown, grown-same, grown-twice, grown-added}
+use Rattle.least.proofs.ProperQueue.{Extends, extends-same, extends-twice, extends-added}
 use Rattle.least.proofs.QueueTree.{Tree, tree-start, tree-more, tree-added, Earlier, Sorted, sorted-start, sorted-added, Has, has-added, has-new}
 use Rattle.least.proofs.SearchLaws.{looked}
 
@@ -33,7 +33,7 @@ module _ (nexts : ℕ → List ℕ) (goal : ℕ → Bool) (n w : ℕ) where
   -- place i of queue o is being looked at: its next words are offered but for vs, and q is the queue by now
   record Looking (i : ℕ) (o : Queue) (vs : List ℕ) (q : Queue) : Type 0 where
     tree : Tree nexts n w (suc i) q
-    grown : Grown o q
+    extends : Extends o q
     in-order : Sorted q
     rising : Ascending vs
     left : (x : ℕ) → List·Memᴰ x vs → List·Memᴰ x (nexts (wordAt o i))
@@ -60,7 +60,7 @@ module _ (nexts : ℕ → List ℕ) (goal : ℕ → Bool) (n w : ℕ) where
   looking-there : (i v : ℕ) {o q : Queue} {vs : List ℕ} → Looking i o (v ∷ vs) q → inQueue q v ≡ true → Looking i o vs q
   looking-there i v l e = record {
     tree = l .tree;
-    grown = l .grown;
+    extends = l .extends;
     in-order = l .in-order;
     rising = l .rising .1;
     left = λ x m. l .left x (List·Memᴰ·tail m);
@@ -70,8 +70,8 @@ module _ (nexts : ℕ → List ℕ) (goal : ℕ → Bool) (n w : ℕ) where
 
   looking-added : (i v : ℕ) {o q : Queue} {vs : List ℕ} → i < size o → v < n → Looking i o (v ∷ vs) q → inQueue q v ≡ false → Looking i o vs (added i q v)
   looking-added i v {o} {q} {vs} b c l e = record {
-    tree = tree-added nexts n w i v (l .tree) d c e (rw (l .grown .same-word i b) (l .left v (List·Memᴰ·head refl)));
-    grown = grown-twice (l .grown) (grown-added i q v even);
+    tree = tree-added nexts n w i v (l .tree) d c e (rw (l .extends .same-word i b) (l .left v (List·Memᴰ·head refl)));
+    extends = extends-twice (l .extends) (extends-added i q v even);
     in-order = sorted-added i v even (l .in-order) newest;
     rising = l .rising .1;
     left = λ x m. l .left x (List·Memᴰ·tail m);
@@ -83,7 +83,7 @@ module _ (nexts : ℕ → List ℕ) (goal : ℕ → Bool) (n w : ℕ) where
       even = l .tree .proper .even
 
       d : i < size q
-      d = let g = l .grown .longer in omega arith
+      d = let g = l .extends .longer in omega arith
 
       old-greater : (j : ℕ) → j < size q → 0 < j → fromAt q j ≡ i → (x : ℕ) → List·Memᴰ x vs → wordAt q j < x
       old-greater j h z f x m = l .greater j z h f x (List·Memᴰ·tail m)
@@ -123,7 +123,7 @@ module _ (nexts : ℕ → List ℕ) (goal : ℕ → Bool) (n w : ℕ) where
         l : Looking i q [] r
         l = looking-all i b vs (λ v m. lower (wordAt q i) v m) q (record {
           tree = tree-more nexts n w (x .tree);
-          grown = grown-same q;
+          extends = extends-same q;
           in-order = x .in-order;
           rising = asc (wordAt q i);
           left = λ v m. m;
@@ -135,18 +135,18 @@ module _ (nexts : ℕ → List ℕ) (goal : ℕ → Bool) (n w : ℕ) where
         last-offered v (inl m) = absurd (List·Memᴰ·not-nil m)
         last-offered v (inr h) = h
 
-        grown-has : (j v : ℕ) → Has j v q → Has j v r
-        grown-has j v h = record {
+        extends-has : (j v : ℕ) → Has j v q → Has j v r
+        extends-has j v h = record {
           place = h .place;
-          inside = let g = l .grown .longer in omega arith;
-          word = l .grown .same-word (h .place) (h .inside) ∙ h .word;
-          found-from = rw (l .grown .same-from (h .place) (h .inside)) (h .found-from);
+          inside = let g = l .extends .longer in omega arith;
+          word = l .extends .same-word (h .place) (h .inside) ∙ h .word;
+          found-from = rw (l .extends .same-from (h .place) (h .inside)) (h .found-from);
         }
 
         closes : (j : ℕ) → (j ≡ i) ⊎ (j < i) → (v : ℕ) → List·Memᴰ v (nexts (wordAt r j)) → Has j v r
-        closes j (inl f) v m = subst (λ (k : ℕ). List·Memᴰ v (nexts (wordAt r k)) → Has k v r) (sym f) (λ c. last-offered v (l .offered v (subst (λ (y : ℕ). List·Memᴰ v (nexts y)) (l .grown .same-word i b) c))) m
-        closes j (inr f) v m = grown-has j v (x .closed j f v (rw (l .grown .same-word j (omega arith)) at m))
+        closes j (inl f) v m = subst (λ (k : ℕ). List·Memᴰ v (nexts (wordAt r k)) → Has k v r) (sym f) (λ c. last-offered v (l .offered v (subst (λ (y : ℕ). List·Memᴰ v (nexts y)) (l .extends .same-word i b) c))) m
+        closes j (inr f) v m = extends-has j v (x .closed j f v (rw (l .extends .same-word j (omega arith)) at m))
 
         goalless : (j : ℕ) → (j ≡ i) ⊎ (j < i) → goal (wordAt r j) ≡ false
-        goalless j (inl f) = ap (λ k. goal (wordAt r k)) f ∙ ap goal (l .grown .same-word i b) ∙ e
-        goalless j (inr f) = ap goal (l .grown .same-word j (omega arith)) ∙ x .no-goal j f
+        goalless j (inl f) = ap (λ k. goal (wordAt r k)) f ∙ ap goal (l .extends .same-word i b) ∙ e
+        goalless j (inr f) = ap goal (l .extends .same-word j (omega arith)) ∙ x .no-goal j f

@@ -48,23 +48,23 @@ module _ {n : ℕ} {q : Queue} (p : Proper n q) where
   }
 
 -- r is q with nothing changed and perhaps more at its end
-pub record Grown (q r : Queue) : Type 0 where
+pub record Extends (q r : Queue) : Type 0 where
   pub longer : size q ≤ size r
   pub same-word : (j : ℕ) → j < size q → wordAt r j ≡ wordAt q j
   pub same-from : (j : ℕ) → j < size q → fromAt r j ≡ fromAt q j
 
-pub grown-same : (q : Queue) → Grown q q
-grown-same q = record { longer = omega arith; same-word = λ j h. refl; same-from = λ j h. refl }
+pub extends-same : (q : Queue) → Extends q q
+extends-same q = record { longer = omega arith; same-word = λ j h. refl; same-from = λ j h. refl }
 
-pub grown-twice : {q r s : Queue} → Grown q r → Grown r s → Grown q s
-grown-twice {q} {r} {s} g h = record {
+pub extends-twice : {q r s : Queue} → Extends q r → Extends r s → Extends q s
+extends-twice {q} {r} {s} g h = record {
   longer = omega arith;
   same-word = λ j b. h .same-word j (omega arith) ∙ g .same-word j b;
   same-from = λ j b. h .same-from j (omega arith) ∙ g .same-from j b;
 }
 
-pub grown-added : (i : ℕ) (q : Queue) (v : ℕ) → length (q .froms) ≡ size q → Grown q (added i q v)
-grown-added i q v even = record {
+pub extends-added : (i : ℕ) (q : Queue) (v : ℕ) → length (q .froms) ≡ size q → Extends q (added i q v)
+extends-added i q v even = record {
   longer = rw (size-added i q v) (omega arith);
   same-word = word-old i q v;
   same-from = from-old i q v even;

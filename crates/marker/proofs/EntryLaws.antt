@@ -46,15 +46,15 @@ module _ (sheet : List ℕ) (place : ℕ) where
       ∙ ap (λ (n : ℕ). carrier ∷ counted ∷ drop n sheet) two
 
   -- it has its count of words
-  pub record Whole : Type 0 where
+  pub record WholeEntry : Type 0 where
     pub two : 2 ≤ length sheet - place
     pub some : counted ≡ 0 → ⊥
     pub fits : counted ≤ length sheet - place - 2
 
-  whole-test : Whole → (eqb counted 0 || ltb (length (drop (place + 2) sheet)) counted) ≡ false
+  whole-test : WholeEntry → (eqb counted 0 || ltb (length (drop (place + 2) sheet)) counted) ≡ false
   whole-test h = let k : counted ≤ length sheet - place - 2 = h .fits in rw (ne-eqb counted 0 (h .some)) (le-ltb (length (drop (place + 2) sheet)) counted (rw (length-drop (place + 2) sheet) (omega arith)))
 
-  route-words : Whole → take counted (drop (place + 2) sheet) ≡ standing ∷ others
+  route-words : WholeEntry → take counted (drop (place + 2) sheet) ≡ standing ∷ others
   route-words h =
       let n : counted ≡ 0 → ⊥ = h .some in
       let so-many : counted ≡ suc (place + 2 + counted - (place + 3)) = omega arith in
@@ -70,7 +70,7 @@ module _ (sheet : List ℕ) (place : ℕ) where
     unfolding entryNumber markEntry
     number-not-whole h e = ap (entryNumber t p) (two-words h) ∙ ap (λ (a : Bool). numberOf a (stillOut p carrier) (byRules t p carrier (take counted (drop (place + 2) sheet))) (endsHome t (take counted (drop (place + 2) sheet))) 0) e
 
-    number-whole : Whole → entryNumber t p (drop place sheet) ≡ numberOf false (stillOut p carrier) (byRules t p carrier (standing ∷ others)) (endsHome t (standing ∷ others)) 0
+    number-whole : WholeEntry → entryNumber t p (drop place sheet) ≡ numberOf false (stillOut p carrier) (byRules t p carrier (standing ∷ others)) (endsHome t (standing ∷ others)) 0
     unfolding entryNumber markEntry
     number-whole h =
         ap (entryNumber t p) (two-words (h .two))
@@ -99,7 +99,7 @@ by-standing t p c w vs s = go (eqb c 0) (ltb w (2 * t .zones)) (eqb (at p (zoneO
     go false false d e = absurd (false≢true e)
 
 -- an entry that starts with its carrier's standing has its route's number
-route-decides : (t : Track) (p : Position) (sheet : List ℕ) (place : ℕ) → Whole sheet place → length p ≡ t .zones → standsAt (t .zones) p (carrier sheet place) (standing sheet place) ≡ true
+route-decides : (t : Track) (p : Position) (sheet : List ℕ) (place : ℕ) → WholeEntry sheet place → length p ≡ t .zones → standsAt (t .zones) p (carrier sheet place) (standing sheet place) ≡ true
     → entryNumber t p (drop place sheet) ≡ routeNumber t p (carrier sheet place) (standing sheet place) (others sheet place)
 unfolding routeNumber
 route-decides t p sheet place h each s =
@@ -129,7 +129,7 @@ module _ {home zones : ℕ} {ends : List ℕ} {p : Position} {sheet : List ℕ} 
       let short : length (drop (place + 2) sheet) < k = rw (length-drop (place + 2) sheet) (omega arith) in
       fails (λ points. number-not-whole sheet place (trackOf points home zones ends) p h (or-right (eqb k 0) (ltb (length (drop (place + 2) sheet)) k) (lt-ltb (length (drop (place + 2) sheet)) k short))) (λ e. omega arith)
 
-  module _ (h : Whole sheet place) where
+  module _ (h : WholeEntry sheet place) where
     pub out-fails : {o : Bool} → o ≡ stillOut p (carrier sheet place) → o ≡ false → EntryMarked home zones ends p sheet place 31 p
     out-fails e f =
         let r = standing sheet place ∷ others sheet place in

@@ -57,11 +57,11 @@ fails-words t p (c ∷ []) h n = refl
 fails-words t p (c ∷ k ∷ ws) h n = stops (eqb k 0 || ltb (length ws) k) (stillOut p c) (byRules t p c (take k ws)) (endsHome t (take k ws)) (markEntries (suc (length ws)) t (retire c p) (drop k ws)) n
 
 -- what an entry that passes leaves: the words after it, with its carrier taken off
-record Passed (t : Track) (p : Position) (ws : List ℕ) : Type 0 where
+record EntryPassed (t : Track) (p : Position) (ws : List ℕ) : Type 0 where
   pub within : 2 + getD ws 1 0 ≤ length ws
   pub same : markEntries (length ws) t p ws ≡ markEntries (length (drop (2 + getD ws 1 0) ws)) t (retire (getD ws 0 0) p) (drop (2 + getD ws 1 0) ws)
 
-passes-words : (t : Track) (p : Position) (ws : List ℕ) → 0 < length ws → entryNumber t p ws ≡ 0 → Passed t p ws
+passes-words : (t : Track) (p : Position) (ws : List ℕ) → 0 < length ws → entryNumber t p ws ≡ 0 → EntryPassed t p ws
 unfolding markEntries markEntry entryNumber
 passes-words t p [] h e = too-many 0 h
 passes-words t p (c ∷ []) h e = absurd (let f : 30 ≡ zero = e in omega arith)
@@ -101,7 +101,7 @@ module _ {points home zones : ℕ} {ends : List ℕ} {first : Position} {sheet :
     entry-stops n = m .number points ∙ sym (fails-words (trackOf points home zones ends) p (drop place sheet) some-words (λ e. n (m .number points ∙ e))) ∙ g .same
 
     module _ (z : r ≡ 0) where
-      passed : Passed (trackOf points home zones ends) p (drop place sheet)
+      passed : EntryPassed (trackOf points home zones ends) p (drop place sheet)
       passed = passes-words (trackOf points home zones ends) p (drop place sheet) some-words (sym (m .number points) ∙ z)
 
       next-place : place + (2 + getD (drop place sheet) 1 0) ≡ place + 2 + getD sheet (place + 1) 0

@@ -22,7 +22,7 @@ use Rattle.rules.proofs.OutTested.{stands-out}
 use Rattle.marking.proofs.RouteMarked.{route-of-tests, rules-of-route, home-of-route}
 
 -- all four tests passed, and the rest marked 0
-pub record Passed (short out rules home : Bool) (rest : ℕ) : Type 0 where
+pub record AllPassed (short out rules home : Bool) (rest : ℕ) : Type 0 where
   pub whole : short ≡ false
   pub isOut : out ≡ true
   pub byRule : rules ≡ true
@@ -32,14 +32,14 @@ pub record Passed (short out rules home : Bool) (rest : ℕ) : Type 0 where
 pub not-zero : {X : Type 0} (n : ℕ) → suc n ≡ 0 → X
 not-zero n h = absurd (omega arith)
 
-passed : (short out rules home : Bool) (rest : ℕ) → numberOf short out rules home rest ≡ 0 → Passed short out rules home rest
+passed : (short out rules home : Bool) (rest : ℕ) → numberOf short out rules home rest ≡ 0 → AllPassed short out rules home rest
 passed true out rules home rest h = not-zero 29 h
 passed false false rules home rest h = not-zero 30 h
 passed false true false home rest h = not-zero 31 h
 passed false true true false rest h = not-zero 32 h
 passed false true true true rest h = record { whole = refl; isOut = refl; byRule = refl; atHome = refl; after = h }
 
-zero-of-passed : (short out rules home : Bool) (rest : ℕ) → Passed short out rules home rest → numberOf short out rules home rest ≡ 0
+zero-of-passed : (short out rules home : Bool) (rest : ℕ) → AllPassed short out rules home rest → numberOf short out rules home rest ≡ 0
 zero-of-passed true out rules home rest x = both-ways {t = true} refl (x .whole)
 zero-of-passed false false rules home rest x = both-ways {t = false} (x .isOut) refl
 zero-of-passed false true false home rest x = both-ways {t = false} (x .byRule) refl

@@ -1,28 +1,23 @@
 -- The page of board K, whole, as document 01 shows it; of a board with two carriers blocked; of a board that is turned back.
 -- antt computes each from the definitions.
-use Prim.Native.Nat.{ℕ}
 use mathlib.Core.Path.{_≡_, refl}
-use mathlib.Core.List.{List, [], _∷_, map}
+use mathlib.Core.List.{[], _∷_, map}
 use lib.ListN.{replicate}
 use Rattle.model.specs.Labels.{parts, joinZones, join}
 use Rattle.model.specs.Reading.{refusal, tooShort, wrongLength, wrongVersion, outOfRange, wrongCount, badZone, repeated, underTwo, apart, trackSaid, positionSaid}
 use Rattle.rules.specs.Search.{leastFrom, wordsTo, goalIn}
+use Rattle.rules.specs.Starred.{boardT}
+use Rattle.rules.specs.Table.{boardK}
 use Rattle.rules.specs.Key.{named, run, runFor, firstToGo, leastRoute, zoneFor, nexts}
 use Rattle.page.specs.Page.{spelled, digits, decimal, wordText, spaced, entryLine, entryLines, blockedText, headLines, keyPage, refusedPage, pageFor, pageOf}
 
-abbrev boardK : List ℕ
-boardK = 0x00 ∷ 0x0C ∷ 0x01 ∷ 0x02 ∷ 0x00 ∷ 0x02 ∷ 0x00 ∷ 0x01 ∷ 0x07 ∷ 0x00 ∷ 0x00 ∷ 0x01 ∷ 0x00 ∷ 0x00 ∷ []
-
 pub page-of-K : pageOf boardK ≡ spelled "board 2 points 2 zones 1 out\nverdict 0\nhome 7: 0+ 1-\nblocked none\n"
-unfolding pageOf pageFor refusedPage keyPage headLines blockedText entryLines entryLine spaced wordText decimal digits named run runFor firstToGo leastRoute zoneFor nexts leastFrom wordsTo goalIn parts joinZones join refusal tooShort wrongLength wrongVersion outOfRange wrongCount badZone repeated underTwo apart trackSaid positionSaid
+unfolding boardK boardT pageOf pageFor refusedPage keyPage headLines blockedText entryLines entryLine spaced wordText decimal digits named run runFor firstToGo leastRoute zoneFor nexts leastFrom wordsTo goalIn parts joinZones join refusal tooShort wrongLength wrongVersion outOfRange wrongCount badZone repeated underTwo apart trackSaid positionSaid
 page-of-K = refl
 
 -- board T with carriers 7 and 109, both heading 0
-abbrev blockedBoard : List ℕ
-blockedBoard = 0x00 ∷ 0x0C ∷ 0x01 ∷ 0x02 ∷ 0x00 ∷ 0x02 ∷ 0x00 ∷ 0x01 ∷ 0x07 ∷ 0x00 ∷ 0x00 ∷ 0x01 ∷ 0x6D ∷ 0x00 ∷ []
-
-pub page-of-blocked : pageOf blockedBoard ≡ spelled "board 2 points 2 zones 2 out\nverdict 20\nblocked 7 109\n"
-unfolding pageOf pageFor refusedPage keyPage headLines blockedText entryLines entryLine spaced wordText decimal digits named run runFor firstToGo leastRoute zoneFor nexts leastFrom wordsTo goalIn parts joinZones join refusal tooShort wrongLength wrongVersion outOfRange wrongCount badZone repeated underTwo apart trackSaid positionSaid
+pub page-of-blocked : pageOf (boardT 7 0 109 0) ≡ spelled "board 2 points 2 zones 2 out\nverdict 20\nblocked 7 109\n"
+unfolding boardT pageOf pageFor refusedPage keyPage headLines blockedText entryLines entryLine spaced wordText decimal digits named run runFor firstToGo leastRoute zoneFor nexts leastFrom wordsTo goalIn parts joinZones join refusal tooShort wrongLength wrongVersion outOfRange wrongCount badZone repeated underTwo apart trackSaid positionSaid
 page-of-blocked = refl
 
 pub page-of-refused : pageOf (0x00 ∷ 0x0C ∷ 0x01 ∷ []) ≡ spelled "refused 1\n"

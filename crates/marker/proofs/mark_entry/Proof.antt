@@ -5,12 +5,12 @@ use mathlib.Core.Path.{refl}
 use native.Mathlib.Omega.{arith}
 use lib.ListN.{length-set}
 use Rattle.marker.specs.Marked.{Markable}
-use Rattle.marker.proofs.EntryLaws.{Whole, short-fails, empty-fails, past-fails, out-fails, standing-fails, route-fails, route-passes, stands-below, standing}
+use Rattle.marker.proofs.EntryLaws.{WholeEntry, short-fails, empty-fails, past-fails, out-fails, standing-fails, route-fails, route-passes, stands-below, standing}
 use Rattle.marker.proofs.mark_entry.Statement.{statement}
 use Rattle.marker.proofs.mark_entry.Tie as tie
 
 -- past the tests of 30 the entry has its count of words
-whole : (c : tie.Else3) → Whole (c .before .before .before .before .before .before .before .args .sheet .now) (c .before .before .before .before .before .before .before .args .place)
+whole : (c : tie.Else3) → WholeEntry (c .before .before .before .before .before .before .before .args .sheet .now) (c .before .before .before .before .before .before .before .args .place)
 whole c = record { two = c .before .before .before .if1 .left; some = c .before .if2 .left; fits = c .if3 .left }
 
 abbrev start : tie.Else4 → tie.Start

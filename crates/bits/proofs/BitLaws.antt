@@ -13,7 +13,7 @@ use lib.Arith.{digits-mod}
 use lib.Pow.{shr-shr, pow-pos, pow-lt}
 use lib.Bits.{bitAnd, bitOr, and-le-l, and-shr, or-shr, and-step, or-step}
 use Rattle.model.proofs.BoolLaws.{and-left, and-right, or-cases}
-use Rattle.bits.specs.Sets.{hasBit, less}
+use Rattle.bits.specs.Sets.{hasBit, setMinus}
 
 -- the lowest bit, and the others one place down
 pub bit-first : (s : ℕ) → hasBit s 0 ≡ eqb (s % 2) 1
@@ -139,9 +139,9 @@ word-of-bits n (suc k) s h none =
     omega arith
 
 -- the numbers of s that are not in t
-pub bit-less : (s t p : ℕ) → s < 2 ^ 64 → t < 2 ^ 64 → hasBit (less s t) p ≡ (hasBit s p && not (hasBit t p))
-unfolding less
-bit-less s t p h g = bit-and s (2 ^ 64 - 1 - t) p ∙ go (ltb p 64) refl
+pub bit-minus : (s t p : ℕ) → s < 2 ^ 64 → t < 2 ^ 64 → hasBit (setMinus s t) p ≡ (hasBit s p && not (hasBit t p))
+unfolding setMinus
+bit-minus s t p h g = bit-and s (2 ^ 64 - 1 - t) p ∙ go (ltb p 64) refl
   where
     go : (b : Bool) → ltb p 64 ≡ b → (hasBit s p && hasBit (2 ^ 64 - 1 - t) p) ≡ (hasBit s p && not (hasBit t p))
     go true e = ap (λ (b : Bool). hasBit s p && b) (bit-complement 64 t p g (ltb-true p 64 e))
@@ -151,9 +151,9 @@ bit-less s t p h g = bit-and s (2 ^ 64 - 1 - t) p ∙ go (ltb p 64) refl
 pub bit-with : (s p q : ℕ) → hasBit (bitOr s (2 ^ p)) q ≡ (hasBit s q || eqb q p)
 bit-with s p q = bit-or s (2 ^ p) q ∙ ap (λ (b : Bool). hasBit s q || b) (bit-alone p q)
 
-pub less-word : (s t : ℕ) → s < 2 ^ 64 → less s t < 2 ^ 64
-unfolding less
-less-word s t h = lt-of-le-of-lt (and-le-l s (2 ^ 64 - 1 - t)) h
+pub minus-word : (s t : ℕ) → s < 2 ^ 64 → setMinus s t < 2 ^ 64
+unfolding setMinus
+minus-word s t h = lt-of-le-of-lt (and-le-l s (2 ^ 64 - 1 - t)) h
 
 -- the same as facts: where a number is after each operation, and where it came from
 module _ (s t p : ℕ) where
@@ -174,17 +174,17 @@ module _ (s t p : ℕ) where
       go false k = k
 
   module _ (h : s < 2 ^ 64) (g : t < 2 ^ 64) where
-    pub less-in : hasBit (less s t) p ≡ true → hasBit s p ≡ true
-    less-in e = and-left (hasBit s p) (not (hasBit t p)) (sym (bit-less s t p h g) ∙ e)
+    pub minus-in : hasBit (setMinus s t) p ≡ true → hasBit s p ≡ true
+    minus-in e = and-left (hasBit s p) (not (hasBit t p)) (sym (bit-minus s t p h g) ∙ e)
 
-    pub less-not-in : hasBit (less s t) p ≡ true → hasBit t p ≡ false
-    less-not-in e = not-true (hasBit t p) (and-right (hasBit s p) (not (hasBit t p)) (sym (bit-less s t p h g) ∙ e))
+    pub minus-not-in : hasBit (setMinus s t) p ≡ true → hasBit t p ≡ false
+    minus-not-in e = not-true (hasBit t p) (and-right (hasBit s p) (not (hasBit t p)) (sym (bit-minus s t p h g) ∙ e))
 
-    pub less-gone : hasBit t p ≡ true → hasBit (less s t) p ≡ false
-    less-gone e = bit-less s t p h g ∙ ap (λ (b : Bool). hasBit s p && not b) e ∙ and-false (hasBit s p)
+    pub minus-gone : hasBit t p ≡ true → hasBit (setMinus s t) p ≡ false
+    minus-gone e = bit-minus s t p h g ∙ ap (λ (b : Bool). hasBit s p && not b) e ∙ and-false (hasBit s p)
 
-    pub in-less : hasBit s p ≡ true → hasBit t p ≡ false → hasBit (less s t) p ≡ true
-    in-less e n = bit-less s t p h g ∙ ap₂ (λ (a b : Bool). a && not b) e n
+    pub in-minus : hasBit s p ≡ true → hasBit t p ≡ false → hasBit (setMinus s t) p ≡ true
+    in-minus e n = bit-minus s t p h g ∙ ap₂ (λ (a b : Bool). a && not b) e n
 
 pub alone-there : (p : ℕ) → hasBit (2 ^ p) p ≡ true
 alone-there p = bit-alone p p ∙ eq-eqb p p refl

@@ -9,17 +9,17 @@ use borrow.Author.Tests.{eqb-true, eqb-false}
 use lib.Bits.{bitAnd, and-le-l}
 use lib.Dec.{eqb, eqb·suc-zero, eqb·suc-suc}
 use lib.Count.{trailingZeros, under}
-use Rattle.bits.specs.Sets.{hasBit, less, Lowest, ButLowest}
-use Rattle.bits.proofs.BitLaws.{bit-first, bit-next, bit-and, bit-less, bit-alone, same-bits, half-below, less-word, alone-other, alone-word}
+use Rattle.bits.specs.Sets.{hasBit, setMinus, Lowest, ButLowest}
+use Rattle.bits.proofs.BitLaws.{bit-first, bit-next, bit-and, bit-minus, bit-alone, same-bits, half-below, minus-word, alone-other, alone-word}
 
 -- p is the lowest of k bits of s
-record First (k s p : ℕ) : Type 0 where
+record LowestUnder (k s p : ℕ) : Type 0 where
   inside : p < k
   there : hasBit s p ≡ true
   least : (q : ℕ) → q < p → hasBit s q ≡ false
 
 -- one digit more below
-first-under : (k s d t : ℕ) → s % 2 ≡ d → (d ≡ 0 → First k (s / 2) t) → First (suc k) s (under d t)
+first-under : (k s d t : ℕ) → s % 2 ≡ d → (d ≡ 0 → LowestUnder k (s / 2) t) → LowestUnder (suc k) s (under d t)
 first-under k s zero t e rest = record {
   inside = suc-le-suc (rest refl .inside);
   there = bit-next s t ∙ rest refl .there;
@@ -36,7 +36,7 @@ first-under k s (suc zero) t e rest = record {
 }
 first-under k s (suc (suc d)) t e rest = absurd (omega arith)
 
-trailing-first : (k s : ℕ) → 0 < s → s < 2 ^ k → First k s (trailingZeros k s)
+trailing-first : (k s : ℕ) → 0 < s → s < 2 ^ k → LowestUnder k s (trailingZeros k s)
 unfolding trailingZeros
 trailing-first zero s a h = absurd (omega arith)
 trailing-first (suc k) s a h =
@@ -77,14 +77,14 @@ shared s (suc p) (suc q) e none =
 pub and-but-lowest : (s : ℕ) → s < 2 ^ 64 → ButLowest s (bitAnd s (s - 1))
 and-but-lowest s h = record { rest = rest }
   where
-    rest : (p : ℕ) → Lowest s p → bitAnd s (s - 1) ≡ less s (2 ^ p)
+    rest : (p : ℕ) → Lowest s p → bitAnd s (s - 1) ≡ setMinus s (2 ^ p)
     rest p low =
-        same-bits 64 (bitAnd s (s - 1)) (less s (2 ^ p)) (lt-of-le-of-lt (and-le-l s (s - 1)) h) (less-word s (2 ^ p) h)
+        same-bits 64 (bitAnd s (s - 1)) (setMinus s (2 ^ p)) (lt-of-le-of-lt (and-le-l s (s - 1)) h) (minus-word s (2 ^ p) h)
         (λ q l.
         bit-and s (s - 1) q ∙ shared s p q (low .there) (low .least) ∙ ap (λ (b : Bool). hasBit s q && not b) (sym (bit-alone p q))
-        ∙ sym (bit-less s (2 ^ p) q h (alone-word p (low .inside))))
+        ∙ sym (bit-minus s (2 ^ p) q h (alone-word p (low .inside))))
 
 -- without the lowest number, the others stay
-pub others-stay : (s p : ℕ) → s < 2 ^ 64 → Lowest s p → (q : ℕ) → (q ≡ p → ⊥) → hasBit s q ≡ hasBit (less s (2 ^ p)) q
+pub others-stay : (s p : ℕ) → s < 2 ^ 64 → Lowest s p → (q : ℕ) → (q ≡ p → ⊥) → hasBit s q ≡ hasBit (setMinus s (2 ^ p)) q
 others-stay s p h low q d =
-    sym (bit-less s (2 ^ p) q h (alone-word p (low .inside)) ∙ ap (λ (b : Bool). hasBit s q && not b) (alone-other p q d) ∙ and-true (hasBit s q))
+    sym (bit-minus s (2 ^ p) q h (alone-word p (low .inside)) ∙ ap (λ (b : Bool). hasBit s q && not b) (alone-other p q d) ∙ and-true (hasBit s q))

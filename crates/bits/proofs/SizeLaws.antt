@@ -12,16 +12,16 @@ use lib.Arith.{bin-ind}
 use lib.Bits.{bitAnd, bitOr, and-step, or-step, and-lt, or-lt}
 use lib.Pow.{pow-pos}
 use lib.Count.{ones, ones-step}
-use Rattle.model.specs.Lists.{countUp, below, consIf, keep, count}
-use Rattle.bits.specs.Sets.{hasBit, less}
-use Rattle.bits.proofs.BitLaws.{bit-first, bit-next, bit-none, bit-and, bit-or, bit-less, half-below, word-of-bits, same-bits, less-word, less-not-in, alone-only, alone-word, bit-below}
+use Rattle.model.specs.Lists.{countUp, numbersBelow, consIf, keep, howMany}
+use Rattle.bits.specs.Sets.{hasBit, setMinus}
+use Rattle.bits.proofs.BitLaws.{bit-first, bit-next, bit-none, bit-and, bit-or, bit-minus, half-below, word-of-bits, same-bits, minus-word, minus-not-in, alone-only, alone-word, bit-below}
 
 length-consIf : (b : Bool) (x y : ℕ) (k l : List ℕ) → length k ≡ length l → length (consIf b x k) ≡ length (consIf b y l)
 length-consIf true x y k l e = ap suc e
 length-consIf false x y k l e = e
 
 -- a count over numbers one higher is a count of the test one higher
-count-up : (f : ℕ → Bool) (j n : ℕ) → count f (countUp (suc j) n) ≡ count (λ p. f (suc p)) (countUp j n)
+count-up : (f : ℕ → Bool) (j n : ℕ) → howMany f (countUp (suc j) n) ≡ howMany (λ p. f (suc p)) (countUp j n)
 count-up f j zero = refl
 count-up f j (suc n) =
     length-consIf (f (suc j)) (suc j) j (keep f (countUp (suc (suc j)) n)) (keep (λ p. f (suc p)) (countUp (suc j) n)) (count-up f (suc j) n)
@@ -37,21 +37,21 @@ unfolding ones
 none-set = refl
 
 -- the count of set bits is how many numbers are in the set
-pub size-count : (k s : ℕ) → s < 2 ^ k → ones s ≡ count (hasBit s) (below k)
+pub size-count : (k s : ℕ) → s < 2 ^ k → ones s ≡ howMany (hasBit s) (numbersBelow k)
 size-count zero s h = let nothing : s ≡ 0 = omega arith in ap ones nothing ∙ none-set
 size-count (suc k) s h =
-    let rest : ones (s / 2) ≡ count (hasBit (s / 2)) (below k) = size-count k (s / 2) (half-below k s h) in
-    let shifted : count (hasBit (s / 2)) (below k) ≡ count (hasBit s) (countUp 1 k) =
-    ap (λ (f : ℕ → Bool). count f (below k)) (fun-ext λ p. sym (bit-next s p)) ∙ sym (count-up (hasBit s) 0 k) in
+    let rest : ones (s / 2) ≡ howMany (hasBit (s / 2)) (numbersBelow k) = size-count k (s / 2) (half-below k s h) in
+    let shifted : howMany (hasBit (s / 2)) (numbersBelow k) ≡ howMany (hasBit s) (countUp 1 k) =
+    ap (λ (f : ℕ → Bool). howMany f (numbersBelow k)) (fun-ext λ p. sym (bit-next s p)) ∙ sym (count-up (hasBit s) 0 k) in
     ones-step s ∙ ap (λ (n : ℕ). s % 2 + n) (rest ∙ shifted)
     ∙ sym (length-digit (s % 2) 0 (keep (hasBit s) (countUp 1 k)) (omega arith))
     ∙ ap (λ (b : Bool). length (consIf b 0 (keep (hasBit s) (countUp 1 k)))) (sym (bit-first s))
 
 -- where no number is at k or above, the numbers below k are all
-pub size-below : (k s : ℕ) → s < 2 ^ 64 → ((p : ℕ) → k ≤ p → hasBit s p ≡ false) → ones s ≡ count (hasBit s) (below k)
+pub size-below : (k s : ℕ) → s < 2 ^ 64 → ((p : ℕ) → k ≤ p → hasBit s p ≡ false) → ones s ≡ howMany (hasBit s) (numbersBelow k)
 size-below k s h none = size-count k s (word-of-bits 64 k s h none)
 
-pub count-within : (k s : ℕ) → s < 2 ^ 64 → ((p : ℕ) → k ≤ p → hasBit s p ≡ false) → count (hasBit s) (below 64) ≡ count (hasBit s) (below k)
+pub count-within : (k s : ℕ) → s < 2 ^ 64 → ((p : ℕ) → k ≤ p → hasBit s p ≡ false) → howMany (hasBit s) (numbersBelow 64) ≡ howMany (hasBit s) (numbersBelow k)
 count-within k s h none = sym (size-count 64 s h) ∙ size-below k s h none
 
 -- numbers of either and numbers of both
@@ -95,12 +95,12 @@ put-back false true f = sym (f refl)
 put-back false false f = refl
 
 -- a number taken away makes one fewer
-pub size-fewer : (s p : ℕ) → s < 2 ^ 64 → hasBit s p ≡ true → suc (ones (less s (2 ^ p))) ≡ ones s
+pub size-fewer : (s p : ℕ) → s < 2 ^ 64 → hasBit s p ≡ true → suc (ones (setMinus s (2 ^ p))) ≡ ones s
 size-fewer s p h e =
     let one : 2 ^ p < 2 ^ 64 = alone-word p (bit-below 64 s p h e) in
-    let back : bitOr (less s (2 ^ p)) (2 ^ p) ≡ s =
-    same-bits 64 _ s (or-lt 64 (less s (2 ^ p)) (2 ^ p) (less-word s (2 ^ p) h) one) h
+    let back : bitOr (setMinus s (2 ^ p)) (2 ^ p) ≡ s =
+    same-bits 64 _ s (or-lt 64 (setMinus s (2 ^ p)) (2 ^ p) (minus-word s (2 ^ p) h) one) h
     (λ q l.
-    bit-or (less s (2 ^ p)) (2 ^ p) q ∙ ap (λ (b : Bool). b || hasBit (2 ^ p) q) (bit-less s (2 ^ p) q h one)
+    bit-or (setMinus s (2 ^ p)) (2 ^ p) q ∙ ap (λ (b : Bool). b || hasBit (2 ^ p) q) (bit-minus s (2 ^ p) q h one)
     ∙ put-back (hasBit s q) (hasBit (2 ^ p) q) (λ f. ap (hasBit s) (alone-only p q f) ∙ e)) in
-    omega (arith, size-apart (less s (2 ^ p)) (2 ^ p) (less-word s (2 ^ p) h) one (λ q. less-not-in s (2 ^ p) q h one), ap ones back, size-alone p)
+    omega (arith, size-apart (setMinus s (2 ^ p)) (2 ^ p) (minus-word s (2 ^ p) h) one (λ q. minus-not-in s (2 ^ p) q h one), ap ones back, size-alone p)

@@ -10,8 +10,8 @@ unfoldable pub hasBit : ℕ → ℕ → Bool
 hasBit s p = eqb (s / 2 ^ p % 2) 1
 
 -- the numbers of s that are not in t, of those below 64
-unfoldable pub less : ℕ → ℕ → ℕ
-less s t = bitAnd s (2 ^ 64 - 1 - t)
+unfoldable pub setMinus : ℕ → ℕ → ℕ
+setMinus s t = bitAnd s (2 ^ 64 - 1 - t)
 
 -- the lowest number of a set
 pub record Lowest (s p : ℕ) : Type 0 where
@@ -21,4 +21,4 @@ pub record Lowest (s p : ℕ) : Type 0 where
 
 -- the set without its lowest number
 pub record ButLowest (s r : ℕ) : Type 0 where
-  pub rest : (p : ℕ) → Lowest s p → r ≡ less s (2 ^ p)
+  pub rest : (p : ℕ) → Lowest s p → r ≡ setMinus s (2 ^ p)

@@ -2,8 +2,8 @@
 ghost use mathlib.Core.Path.{_≡_};
 ghost use Prim.Native.Nat.{_-_, _^_, _≤_, _<_};
 ghost use lib.Bits.{bitOr};
-ghost use Rattle.model.specs.Lists.{below, count};
-ghost use Rattle.bits.specs.Sets.{hasBit, less, Lowest, ButLowest};
+ghost use Rattle.model.specs.Lists.{numbersBelow, howMany};
+ghost use Rattle.bits.specs.Sets.{hasBit, setMinus, Lowest, ButLowest};
 
 // Whether number p is in s.
 pub fn has(s: u64, p: usize) -> bool
@@ -22,8 +22,8 @@ pub fn with(s: u64, p: usize) -> u64
 }
 
 // The numbers of s that are not in t.
-pub fn without(s: u64, t: u64) -> u64
-    ensures { λ r. ⌜ r ≡ less s t ⌝ }
+pub fn minus(s: u64, t: u64) -> u64
+    ensures { λ r. ⌜ r ≡ setMinus s t ⌝ }
 {
     s & !t
 }
@@ -38,7 +38,7 @@ pub fn all(n: usize) -> u64
 
 // How many numbers are in s.
 pub fn size(s: u64) -> usize
-    ensures { λ r. ⌜ r ≡ count (hasBit s) (below 64) ⌝ }
+    ensures { λ r. ⌜ r ≡ howMany (hasBit s) (numbersBelow 64) ⌝ }
 {
     u64::count_ones(s) as usize
 }

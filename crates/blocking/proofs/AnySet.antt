@@ -5,7 +5,7 @@ use mathlib.Core.List.{map}
 use mathlib.Core.Path.{_≡_, refl, sym, _∙_, ap}
 use mathlib.Core.Logic.{_↔_}
 use mathlib.Core.Bool.{Bool, true, false, not, _&&_}
-use Rattle.model.specs.Lists.{below, keep, ascending}
+use Rattle.model.specs.Lists.{numbersBelow, keep, ascending}
 use Rattle.model.specs.Track.{Track, leave}
 use Rattle.model.specs.Position.{Position, at, carrierOf, isFree, standing}
 use Rattle.model.specs.Accepted.{Laid}
@@ -20,9 +20,9 @@ pub home-sets-agree : {t : Track} {p : Position} {H G : ℕ → Type 0} → Home
 home-sets-agree {H = H} {G = G} a b q h = (a .least G (b .closed) q h, b .least H (a .closed) q h)
 
 -- the carriers that leave at a point outside the test, by zones
-pub left-by-test : {t : Track} {p : Position} → Laid t p → (inside : ℕ → Bool) → HomeSet t p (λ q. inside q ≡ true) → left t p ≡ ascending (map (λ z. carrierOf (at p z)) (keep (λ z. not (isFree p z) && not (inside (leave t (standing p z)))) (below (t .zones))))
+pub left-by-test : {t : Track} {p : Position} → Laid t p → (inside : ℕ → Bool) → HomeSet t p (λ q. inside q ≡ true) → left t p ≡ ascending (map (λ z. carrierOf (at p z)) (keep (λ z. not (isFree p z) && not (inside (leave t (standing p z)))) (numbersBelow (t .zones))))
 unfolding left
-left-by-test {t} {p} laid inside home = ap (λ l. ascending (map (λ z. carrierOf (at p z)) l)) (keep-ext stays outside (below (t .zones)) (λ z i. by z (mem-below (t .zones) i) (isFree p z) refl))
+left-by-test {t} {p} laid inside home = ap (λ l. ascending (map (λ z. carrierOf (at p z)) l)) (keep-ext stays outside (numbersBelow (t .zones)) (λ z i. by z (mem-below (t .zones) i) (isFree p z) refl))
   where
     stays : ℕ → Bool
     stays z = not (isFree p z) && not (marked (mergeAll t p) z)

@@ -11,7 +11,7 @@ use borrow.Author.Tests.{eqb-true, eqb-false}
 use Rattle.model.specs.Track.{Track, zoneOf, headingOf, rev, start, leave}
 use Rattle.model.specs.Position.{Position, at, carrierOf, isFree, Stands, retire, standing}
 use Rattle.model.specs.Accepted.{Laid}
-use Rattle.rules.specs.Tries.{Move, Allowed, enters, arrives, Moved, done, forbidden, Moves, none, more}
+use Rattle.rules.specs.Tries.{Move, Allowed, enters, arrives, Moved, done, forbidden, Moves, unmoved, more}
 use Rattle.rules.specs.Key.{named}
 use Rattle.model.proofs.WordLaws.{zone-rev, rev-below, zone-below, same-zone}
 use Rattle.model.proofs.PositionLaws.{stands-below, laid-stands, laid-retire, at-without-kept}
@@ -90,7 +90,7 @@ module _ {t : Track} {p : Position} (laid : Laid t p) {H : ℕ → Type 0} (clos
     kept-moved (forbidden n) = kept
 
   pub kept-moves : {q r : Position} {ms : List Move} → Kept t p H q → Moves t q ms r → Kept t p H r
-  kept-moves kept none = kept
+  kept-moves kept unmoved = kept
   kept-moves kept (more m ms) = kept-moves (kept-moved kept m) ms
 
   -- so a carrier that leaves outside stands as it did

@@ -7,7 +7,7 @@ use mathlib.Core.Logic.{_⊎_, inl, inr}
 use mathlib.Core.Bool.{true}
 use native.Mathlib.Omega.{arith}
 use lib.ListN.{length}
-use Rattle.model.specs.Lists.{below, keep}
+use Rattle.model.specs.Lists.{numbersBelow, keep}
 use Rattle.model.specs.Track.{Track, zoneOf, rev, start, leave}
 use Rattle.model.specs.Position.{Position, isFree}
 use Rattle.model.specs.Labels.{label}
@@ -67,9 +67,9 @@ module _ {t : Track} {p : Position} (laid : Laid t p) where
       same : (a b : ℕ) → a < length (freeParts t p) → b < length (freeParts t p) → label (freeParts t p) a ≡ label (freeParts t p) b → S a → S b
       same a b ha hb q = linked-keeps t S (closed .over-free) (part-linked laid a b (in-points a ha) (in-points b hb) .0 q)
 
-      zone : (z : ℕ) → List·Memᴰ z (keep (turns t p (freeParts t p)) (below (t .zones))) → (S (start t (2 * z)) → S (leave t (2 * z))) × (S (leave t (2 * z)) → S (start t (2 * z)))
+      zone : (z : ℕ) → List·Memᴰ z (keep (turns t p (freeParts t p)) (numbersBelow (t .zones))) → (S (start t (2 * z)) → S (leave t (2 * z))) × (S (leave t (2 * z)) → S (start t (2 * z)))
       zone z m =
-          let k = mem-keep (turns t p (freeParts t p)) (below (t .zones)) m in
+          let k = mem-keep (turns t p (freeParts t p)) (numbersBelow (t .zones)) m in
           let h : z < t .zones = mem-below (t .zones) (k .0) in
           let there : zoneOf (2 * z) ≡ z = omega arith in
           let back : zoneOf (rev (2 * z)) ≡ z = omega arith in (

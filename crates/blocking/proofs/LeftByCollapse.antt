@@ -16,7 +16,7 @@ use Rattle.rules.specs.Collapse.{freeParts, loopIn, turns}
 use Rattle.model.proofs.WordLaws.{zone-rev, rev-below, zone-below, leave-rev, same-zone}
 use Rattle.model.proofs.PositionLaws.{stands-carrier, stands-below, stands-not-free, laid-stands}
 use Rattle.order.proofs.Within.{Within, stands-before}
-use Rattle.turning.specs.Walks.{Apart, Walk, stay, go}
+use Rattle.turning.specs.Walks.{AnotherZone, Walk, stay, go}
 use Rattle.blocking.proofs.Standings.{standing-zone, held-stands}
 use Rattle.blocking.proofs.HomeSet.{Closed}
 use Rattle.blocking.proofs.Loops.{turns-loop, no-loop-stays}
@@ -25,7 +25,7 @@ use Rattle.blocking.proofs.Loops.{turns-loop, no-loop-stays}
 record Trail (t : Track) (p : Position) (H : ℕ → Type 0) (e w : ℕ) : Type 0 where
   words : List ℕ
   walk : Walk t (isFree p) (leave t w) words (leave t e)
-  apart : (v : ℕ) → (zoneOf v ≡ zoneOf w → ⊥) → Apart (rev v) words
+  apart : (v : ℕ) → (zoneOf v ≡ zoneOf w → ⊥) → AnotherZone (rev v) words
   begun : words ≡ [] → zoneOf w ≡ zoneOf e
   outside : H (leave t w) → ⊥
 

@@ -6,7 +6,7 @@ use mathlib.Core.Path.{_≡_, refl, sym, _∙_, ap, subst}
 use mathlib.Core.Logic.{_↔_}
 use mathlib.Core.Bool.{Bool, true, false, not, _&&_}
 use borrow.Author.Tests.{not-true}
-use Rattle.model.specs.Lists.{below, keep, Ascending}
+use Rattle.model.specs.Lists.{numbersBelow, keep, Ascending}
 use Rattle.model.specs.Track.{Track, zoneOf, leave}
 use Rattle.model.specs.Position.{Position, at, carrierOf, isFree, Stands, standing}
 use Rattle.model.specs.Accepted.{Laid}
@@ -43,8 +43,8 @@ module _ {t : Track} {p : Position} (laid : Laid t p) where
   pub mem-left : (c : ℕ) → List·Memᴰ c (left t p) → (w : ℕ) × Stands p c w × (InHome t p (leave t w) → ⊥)
   unfolding left
   mem-left c m =
-      let r : (z : ℕ) × List·Memᴰ z (keep stays (below (t .zones))) × (held-by z ≡ c) = Memᴰ·of-map held-by (keep stays (below (t .zones))) (mem-ascending (map held-by (keep stays (below (t .zones)))) m) in
-      let k : List·Memᴰ (r .0) (below (t .zones)) × (stays (r .0) ≡ true) = mem-keep stays (below (t .zones)) (r .1) in
+      let r : (z : ℕ) × List·Memᴰ z (keep stays (numbersBelow (t .zones))) × (held-by z ≡ c) = Memᴰ·of-map held-by (keep stays (numbersBelow (t .zones))) (mem-ascending (map held-by (keep stays (numbersBelow (t .zones)))) m) in
+      let k : List·Memᴰ (r .0) (numbersBelow (t .zones)) × (stays (r .0) ≡ true) = mem-keep stays (numbersBelow (t .zones)) (r .1) in
       let h : r .0 < t .zones = mem-below (t .zones) (k .0) in
       let held : isFree p (r .0) ≡ false = stays-held (r .0) (k .1) in
       let open-now : marked (mergeAll t p) (r .0) ≡ false = not-true (marked (mergeAll t p) (r .0)) (and-right (not (isFree p (r .0))) (not (marked (mergeAll t p) (r .0))) (k .1)) in
@@ -73,14 +73,14 @@ module _ {t : Track} {p : Position} (laid : Laid t p) where
 
   pub left-ascending : Ascending (left t p)
   unfolding left
-  left-ascending = ascending-strict (map held-by (keep stays (below (t .zones)))) (map-no-repeats held-by (keep stays (below (t .zones))) one-zone (ascending-no-repeats (keep stays (below (t .zones))) (keep-ascending stays (below (t .zones)) (below-ascending (t .zones)))))
+  left-ascending = ascending-strict (map held-by (keep stays (numbersBelow (t .zones)))) (map-no-repeats held-by (keep stays (numbersBelow (t .zones))) one-zone (ascending-no-repeats (keep stays (numbersBelow (t .zones))) (keep-ascending stays (numbersBelow (t .zones)) (below-ascending (t .zones)))))
     where
-      there : (z : ℕ) → List·Memᴰ z (keep stays (below (t .zones))) → Stands p (held-by z) (standing p z)
+      there : (z : ℕ) → List·Memᴰ z (keep stays (numbersBelow (t .zones))) → Stands p (held-by z) (standing p z)
       there z i =
-          let k : List·Memᴰ z (below (t .zones)) × (stays z ≡ true) = mem-keep stays (below (t .zones)) i in
+          let k : List·Memᴰ z (numbersBelow (t .zones)) × (stays z ≡ true) = mem-keep stays (numbersBelow (t .zones)) i in
           laid-stands t p laid z (mem-below (t .zones) (k .0)) (stays-held z (k .1))
 
-      one-zone : (x y : ℕ) → List·Memᴰ x (keep stays (below (t .zones))) → List·Memᴰ y (keep stays (below (t .zones))) → held-by x ≡ held-by y → x ≡ y
+      one-zone : (x y : ℕ) → List·Memᴰ x (keep stays (numbersBelow (t .zones))) → List·Memᴰ y (keep stays (numbersBelow (t .zones))) → held-by x ≡ held-by y → x ≡ y
       one-zone x y i j e =
           sym (standing-zone p x)
           ∙ ap zoneOf (laid .once (held-by x) (standing p x) (standing p y) (there x i) (subst (λ (c : ℕ). Stands p c (standing p y)) (sym e) (there y j)))

@@ -8,14 +8,14 @@ use mathlib.Core.Bool.{Bool, true, false, not, _&&_}
 use native.Mathlib.Omega.{arith}
 use lib.Dec.{eqb, leb}
 use borrow.Author.Tests.{eqb-true, eq-eqb, leb-true, leb-false}
-use Rattle.model.specs.Lists.{below, count}
+use Rattle.model.specs.Lists.{numbersBelow, howMany}
 use Rattle.model.specs.Track.{Track, Linked, zoneOf, start, leave}
 use Rattle.model.specs.Position.{Position, at, isFree, Stands, standing}
 use Rattle.model.specs.Labels.{label}
 use Rattle.model.specs.Accepted.{Laid}
 use Rattle.rules.specs.Collapse.{freeParts, loopIn, turns}
 use Rattle.model.proofs.BoolLaws.{same-test}
-use Rattle.model.proofs.CountLaws.{count-below-ext}
+use Rattle.model.proofs.CountLaws.{how-many-below-ext}
 use Rattle.model.proofs.PositionLaws.{stands-word, stands-not-free}
 use Rattle.model.proofs.LinkLaws.{linked-mono}
 use Rattle.model.proofs.LabelLaws.{parts-linked, linked-parts}
@@ -61,11 +61,11 @@ module _ {t : Track} {p : Position} (laid : Laid t p) where
     no-loop-stays e = no-turn-without t (laid .inside) (isFree p) v v-in within within-linked (leb-false _ _ e)
 
     -- the loop of v's part, by any test of its points
-    pub loop-by-test : (test : ℕ → Bool) → ((q : ℕ) → q < t .points → (test q ≡ true) ↔ Linked t (λ z. isFree p z ≡ true) v q) → loopIn t p (freeParts t p) (label (freeParts t p) v) ≡ leb (count test (below (t .points))) (count (λ z. isFree p z && test (start t (2 * z))) (below (t .zones)))
+    pub loop-by-test : (test : ℕ → Bool) → ((q : ℕ) → q < t .points → (test q ≡ true) ↔ Linked t (λ z. isFree p z ≡ true) v q) → loopIn t p (freeParts t p) (label (freeParts t p) v) ≡ leb (howMany test (numbersBelow (t .points))) (howMany (λ z. isFree p z && test (start t (2 * z))) (numbersBelow (t .zones)))
     unfolding loopIn
     loop-by-test test agrees =
-        ap₂ leb (count-below-ext within test (t .points) same)
-        (count-below-ext (λ z. isFree p z && within (start t (2 * z))) (λ z. isFree p z && test (start t (2 * z))) (t .zones) (λ z h. ap (λ (b : Bool). isFree p z && b) (same (start t (2 * z)) (laid .inside (2 * z) (omega arith)))))
+        ap₂ leb (how-many-below-ext within test (t .points) same)
+        (how-many-below-ext (λ z. isFree p z && within (start t (2 * z))) (λ z. isFree p z && test (start t (2 * z))) (t .zones) (λ z h. ap (λ (b : Bool). isFree p z && b) (same (start t (2 * z)) (laid .inside (2 * z) (omega arith)))))
       where
         same : (q : ℕ) → q < t .points → within q ≡ test q
         same q h = same-test (within q) (test q) (λ e. agrees q h .1 (within-linked q h .0 e)) (λ e. within-linked q h .1 (agrees q h .0 e))

@@ -1,6 +1,7 @@
 -- Merging zone by zone: labels only become alike and marks only come; a marked zone has both ends in home's part; no closed set parts like labels.
 -- Each is kept by the merging of one zone, so by any number of rounds.
 use Prim.Native.Nat.{ℕ, _*_, _<_}
+use mathlib.Core.List.{foldl}
 use mathlib.Core.Path.{_≡_, refl, sym, _∙_, ap, subst}
 use mathlib.Core.Logic.{_⊎_, inl, inr}
 use mathlib.Core.Bool.{Bool, true, false, not, _&&_}
@@ -9,13 +10,13 @@ use lib.ListN.{length, getD, replicate, length-set, length-replicate, getD-repli
 use lib.Seq.{getD-set-same, getD-set-other}
 use lib.Dec.{eqb}
 use borrow.Author.Tests.{eqb-true, eqb-false, eq-eqb, not-true}
-use Rattle.model.specs.Lists.{below, foldLeft}
+use Rattle.model.specs.Lists.{numbersBelow}
 use Rattle.model.specs.Track.{Track, rev, start, leave}
 use Rattle.model.specs.Position.{Position, at, carrierOf, isFree, outs, standing}
 use Rattle.model.specs.Labels.{label}
 use Rattle.model.specs.Accepted.{Laid}
 use Rattle.model.proofs.BoolLaws.{both-ways, and-left, and-right}
-use Rattle.model.proofs.ListLaws.{mem-below, foldLeft-keeps, times-keeps}
+use Rattle.model.proofs.ListLaws.{mem-below, foldl-keeps, n-times-keeps}
 use Rattle.model.proofs.WordLaws.{rev-below}
 use Rattle.model.proofs.PositionLaws.{laid-stands}
 use Rattle.model.proofs.LabelLaws.{length-join, InJoin, join-same, same-join}
@@ -135,7 +136,7 @@ abbrev pub Keeps : Track → (ℕ → Type 0) → Merging → Type 0
 Keeps t S m = (r s : ℕ) → r < t .points → s < t .points → Alike m r s → S r → S s
 
 abbrev pub round : Track → Position → Merging → Merging
-round t p m = foldLeft (mergeZone t p) m (below (t .zones))
+round t p m = foldl (mergeZone t p) m (numbersBelow (t .zones))
 
 module _ {t : Track} {p : Position} (laid : Laid t p) where
   unmarked : (z : ℕ) {X : Type 0} → z < t .zones → marked (before t p) z ≡ true → X
@@ -180,11 +181,11 @@ module _ {t : Track} {p : Position} (laid : Laid t p) where
           }
 
   pub sound-round : (m : Merging) → Sound t p m → Sound t p (round t p m)
-  sound-round m s = foldLeft-keeps (Sound t p) (mergeZone t p) (below (t .zones)) (λ n z i. sound-merge n z (mem-below (t .zones) i)) m s
+  sound-round m s = foldl-keeps (Sound t p) (mergeZone t p) (numbersBelow (t .zones)) (λ n z i. sound-merge n z (mem-below (t .zones) i)) m s
 
   pub sound-all : Sound t p (mergeAll t p)
   unfolding mergeAll
-  sound-all = times-keeps (Sound t p) (round t p) sound-round (length (outs p)) (before t p) sound-before
+  sound-all = n-times-keeps (Sound t p) (round t p) sound-round (length (outs p)) (before t p) sound-before
 
   pub further-merge : (m : Merging) (z : ℕ) → z < t .zones → Sound t p m → MergedFurther t m (mergeZone t p m z)
   further-merge m z h s = merge-cases t p (MergedFurther t m) m z (further-same t m) (λ leads. after-further laid m z h (s .sized))
@@ -212,9 +213,9 @@ module _ {t : Track} {p : Position} (laid : Laid t p) where
 
     keeps-round : (m : Merging) → Sound t p m × Keeps t S m → Sound t p (round t p m) × Keeps t S (round t p m)
     keeps-round m k =
-        foldLeft-keeps (λ n. Sound t p n × Keeps t S n) (mergeZone t p) (below (t .zones))
+        foldl-keeps (λ n. Sound t p n × Keeps t S n) (mergeZone t p) (numbersBelow (t .zones))
         (λ n z i b. (sound-merge n z (mem-below (t .zones) i) (b .0), keeps-merge n z (mem-below (t .zones) i) (b .0) (b .1))) m k
 
     pub keeps-all : Keeps t S (mergeAll t p)
     unfolding mergeAll
-    keeps-all = times-keeps (λ n. Sound t p n × Keeps t S n) (round t p) keeps-round (length (outs p)) (before t p) (sound-before, joined-keeps laid S closed) .1
+    keeps-all = n-times-keeps (λ n. Sound t p n × Keeps t S n) (round t p) keeps-round (length (outs p)) (before t p) (sound-before, joined-keeps laid S closed) .1

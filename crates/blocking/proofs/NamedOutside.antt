@@ -7,7 +7,7 @@ use Rattle.model.specs.Track.{Track, leave}
 use Rattle.model.specs.Position.{Position, Stands, Out}
 use Rattle.model.specs.Accepted.{Laid}
 use Rattle.model.proofs.PositionLaws.{retire-stands}
-use Rattle.rules.specs.Tries.{CanGo, Try, went, refused, Tries, none, more}
+use Rattle.rules.specs.Tries.{CanGo, Try, went, refused, Tries, untried, more}
 use Rattle.rules.specs.Key.{run, named}
 use Rattle.order.proofs.Within.{Within, within-self, within-trans, stands-before}
 use Rattle.order.proofs.LastPosition.{within-try, tries-of-retires}
@@ -28,7 +28,7 @@ module _ {t : Track} {p : Position} (laid : Laid t p) {H : ℕ → Type 0} (clos
   still-try within still (refused cannot) d w s out = still d w s out
 
   still-tries : {q r : Position} {cs : List ℕ} → Within q p → AllStill q → Tries t q cs r → AllStill r
-  still-tries within still none = still
+  still-tries within still untried = still
   still-tries within still (more y ts) = still-tries (within-trans (within-try y) within) (still-try within still y) ts
 
   -- however tried, a carrier that leaves outside stands as at first

@@ -1,7 +1,7 @@
 -- As many rounds of merging as carriers are enough: a round that marks no new zone changes nothing, and every other marks one more of the held zones.
 -- So at the end each zone that leads home is marked.
 use Prim.Native.Nat.{ℕ, zero, suc, _+_, _≤_, _<_}
-use mathlib.Core.List.{List, [], _∷_, map, map-id, List·Memᴰ, List·Memᴰ·head, List·Memᴰ·tail, List·Memᴰ·not-nil, List·Memᴰ·cases-cons}
+use mathlib.Core.List.{List, [], _∷_, map, map-id, List·Memᴰ, List·Memᴰ·head, List·Memᴰ·tail, List·Memᴰ·not-nil, List·Memᴰ·cases-cons, foldl}
 use mathlib.Core.Path.{_≡_, refl, sym, _∙_, ap, subst}
 use mathlib.Core.Logic.{_⊎_, inl, inr}
 use mathlib.Core.Bool.{Bool, true, false, not, cond, _&&_}
@@ -10,13 +10,13 @@ use lib.ListN.{length, getD, set, length-map}
 use lib.Seq.{set-getD, ext-getD}
 use lib.Dec.{eqb}
 use borrow.Author.Tests.{eqb-true, eqb-false, ne-eqb, not-true}
-use Rattle.model.specs.Lists.{below, consIf, keep, any, count, foldLeft, times}
+use Rattle.model.specs.Lists.{numbersBelow, consIf, keep, anyOf, howMany, nTimes}
 use Rattle.model.specs.Track.{Track, start, leave}
 use Rattle.model.specs.Position.{Position, at, carrierOf, isFree, outs, standing}
-use Rattle.model.specs.Labels.{label, join}
+use Rattle.model.specs.Labels.{label, joinPoints}
 use Rattle.model.specs.Accepted.{Laid}
 use Rattle.model.proofs.BoolLaws.{both-ways, not-true-false, decided, and-left, and-right, and-both}
-use Rattle.model.proofs.ListLaws.{length-below, mem-below, below-mem, any-below, any-below-false, count-mono, count-less, foldLeft-keeps, times-keeps}
+use Rattle.model.proofs.ListLaws.{length-below, mem-below, below-mem, any-below, any-below-false, how-many-mono, how-many-less, foldl-keeps, n-times-keeps}
 use Rattle.model.proofs.AscendingLaws.{length-ascending}
 use Rattle.model.proofs.PlaceLaws.{map-ext, getD-map-below}
 use Rattle.model.proofs.PositionLaws.{laid-numbered}
@@ -28,8 +28,8 @@ abbrev pub Settled : Track → Position → Merging → Type 0
 Settled t p m = (z : ℕ) → z < t .zones → leadsHome t p (m .labels) z ≡ true → marked m z ≡ true
 
 -- joining two points with one label changes nothing
-join-alike : (ls : List ℕ) (a b : ℕ) → label ls a ≡ label ls b → join ls a b ≡ ls
-unfolding join
+join-alike : (ls : List ℕ) (a b : ℕ) → label ls a ≡ label ls b → joinPoints ls a b ≡ ls
+unfolding joinPoints
 join-alike ls a b e = map-ext (λ l. cond (eqb l (label ls a)) (label ls b) l) (λ l. l) ls (λ l i. by l (eqb l (label ls a)) refl) ∙ map-id ls
   where
     by : (l : ℕ) (c : Bool) → eqb l (label ls a) ≡ c → cond c (label ls b) l ≡ l
@@ -41,7 +41,7 @@ abbrev waits : Track → Position → Merging → ℕ → Bool
 waits t p m z = not (isFree p z) && not (marked m z)
 
 abbrev waiting : Track → Position → Merging → ℕ
-waiting t p m = count (waits t p m) (below (t .zones))
+waiting t p m = howMany (waits t p m) (numbersBelow (t .zones))
 
 and-second : (a b : Bool) → b ≡ false → (a && b) ≡ false
 and-second true b q = q
@@ -54,25 +54,25 @@ module _ {t : Track} {p : Position} (laid : Laid t p) where
     where
       same : leadsHome t p (m .labels) z ≡ true → after t p m z ≡ m
       same leads =
-          let e : join (m .labels) (start t (standing p z)) (t .home) ≡ m .labels = join-alike (m .labels) (start t (standing p z)) (t .home) (s .starts-home z h (settled z h leads)) in
+          let e : joinPoints (m .labels) (start t (standing p z)) (t .home) ≡ m .labels = join-alike (m .labels) (start t (standing p z)) (t .home) (s .starts-home z h (settled z h leads)) in
           let f : set (m .merged) z true ≡ m .merged = ap (set (m .merged) z) (sym (settled z h leads)) ∙ set-getD (m .merged) z false in
           λ i. record { labels = e i; merged = f i }
 
   settled-round : (m : Merging) → Sound t p m → Settled t p m → round t p m ≡ m
   settled-round m s settled =
-      foldLeft-keeps (λ n. n ≡ m) (mergeZone t p) (below (t .zones)) (λ n z i q. ap (λ (k : Merging). mergeZone t p k z) q ∙ settled-merge m s settled z (mem-below (t .zones) i)) m refl
+      foldl-keeps (λ n. n ≡ m) (mergeZone t p) (numbersBelow (t .zones)) (λ n z i q. ap (λ (k : Merging). mergeZone t p k z) q ∙ settled-merge m s settled z (mem-below (t .zones) i)) m refl
 
   -- a zone that leads home is marked by its merging, and so by a round
   merge-marks : (m : Merging) (z : ℕ) → z < t .zones → Sound t p m → leadsHome t p (m .labels) z ≡ true → marked (mergeZone t p m z) z ≡ true
   unfolding mergeZone
   merge-marks m z h s leads = ap (λ (b : Bool). marked (mergeIf t p b m z) z) leads ∙ after-marked laid m z h (s .sized)
 
-  further-fold : (l : List ℕ) → ((x : ℕ) → List·Memᴰ x l → x < t .zones) → (m : Merging) → Sound t p m → MergedFurther t m (foldLeft (mergeZone t p) m l)
+  further-fold : (l : List ℕ) → ((x : ℕ) → List·Memᴰ x l → x < t .zones) → (m : Merging) → Sound t p m → MergedFurther t m (foldl (mergeZone t p) m l)
   further-fold l small m s =
-      foldLeft-keeps (λ n. Sound t p n × MergedFurther t m n) (mergeZone t p) l
+      foldl-keeps (λ n. Sound t p n × MergedFurther t m n) (mergeZone t p) l
       (λ n z i k. (sound-merge laid n z (small z i) (k .0), further-more (k .1) (further-merge laid n z (small z i) (k .0)))) m (s, further-same t m) .1
 
-  fold-marks : (l : List ℕ) → ((x : ℕ) → List·Memᴰ x l → x < t .zones) → (z : ℕ) → List·Memᴰ z l → (m : Merging) → Sound t p m → leadsHome t p (m .labels) z ≡ true → marked (foldLeft (mergeZone t p) m l) z ≡ true
+  fold-marks : (l : List ℕ) → ((x : ℕ) → List·Memᴰ x l → x < t .zones) → (z : ℕ) → List·Memᴰ z l → (m : Merging) → Sound t p m → leadsHome t p (m .labels) z ≡ true → marked (foldl (mergeZone t p) m l) z ≡ true
   fold-marks [] small z i m s leads = absurd (List·Memᴰ·not-nil i)
   fold-marks (a ∷ l) small z i m s leads = by (List·Memᴰ·cases-cons i) (λ j. fold-marks l (λ x k. small x (List·Memᴰ·tail k)) z j (mergeZone t p m a) next still)
     where
@@ -87,7 +87,7 @@ module _ {t : Track} {p : Position} (laid : Laid t p) where
           alike-leads laid (mergeZone t p m a) z (leads-held laid m z leads)
           (further-merge laid m a (small a (List·Memᴰ·head refl)) s .coarser (leave t (standing p z)) (t .home) (leaves-in laid z in-zones) (laid .home-in) (leads-alike laid m z leads))
 
-      by : (z ≡ a) ⊎ List·Memᴰ z l → (List·Memᴰ z l → marked (foldLeft (mergeZone t p) (mergeZone t p m a) l) z ≡ true) → marked (foldLeft (mergeZone t p) (mergeZone t p m a) l) z ≡ true
+      by : (z ≡ a) ⊎ List·Memᴰ z l → (List·Memᴰ z l → marked (foldl (mergeZone t p) (mergeZone t p m a) l) z ≡ true) → marked (foldl (mergeZone t p) (mergeZone t p m a) l) z ≡ true
       by (inl e) rest =
           further-fold l (λ x k. small x (List·Memᴰ·tail k)) (mergeZone t p m a) next .still-marked z
           (subst (λ (x : ℕ). marked (mergeZone t p m x) z ≡ true) e (merge-marks m z in-zones s leads))
@@ -95,29 +95,29 @@ module _ {t : Track} {p : Position} (laid : Laid t p) where
 
   -- so a round settles, or leaves fewer waiting
   settled-or-fewer : (m : Merging) → Sound t p m → Settled t p m ⊎ (waiting t p (round t p m) < waiting t p m)
-  settled-or-fewer m s = by (decided (any (λ z. leadsHome t p (m .labels) z && not (marked m z)) (below (t .zones))))
+  settled-or-fewer m s = by (decided (anyOf (λ z. leadsHome t p (m .labels) z && not (marked m z)) (numbersBelow (t .zones))))
     where
       new : ℕ → Bool
       new z = leadsHome t p (m .labels) z && not (marked m z)
 
       further : MergedFurther t m (round t p m)
-      further = further-fold (below (t .zones)) (λ x i. mem-below (t .zones) i) m s
+      further = further-fold (numbersBelow (t .zones)) (λ x i. mem-below (t .zones) i) m s
 
-      waited : (z : ℕ) → List·Memᴰ z (below (t .zones)) → waits t p (round t p m) z ≡ true → waits t p m z ≡ true
+      waited : (z : ℕ) → List·Memᴰ z (numbersBelow (t .zones)) → waits t p (round t p m) z ≡ true → waits t p m z ≡ true
       waited z i e =
           let open-now : marked (round t p m) z ≡ false = not-true (marked (round t p m) z) (and-right (not (isFree p z)) (not (marked (round t p m) z)) e) in
           let open-before : marked m z ≡ false = not-true-false (marked m z) (λ q. both-ways (further .still-marked z q) open-now) in
           and-both (not (isFree p z)) (not (marked m z)) (and-left (not (isFree p z)) (not (marked (round t p m) z)) e) (ap not open-before)
 
-      by : (any new (below (t .zones)) ≡ true) ⊎ (any new (below (t .zones)) ≡ false) → Settled t p m ⊎ (waiting t p (round t p m) < waiting t p m)
+      by : (anyOf new (numbersBelow (t .zones)) ≡ true) ⊎ (anyOf new (numbersBelow (t .zones)) ≡ false) → Settled t p m ⊎ (waiting t p (round t p m) < waiting t p m)
       by (inl e) =
           let k : (z : ℕ) × (z < t .zones) × (new z ≡ true) = any-below new (t .zones) e in
           let z : ℕ = k .0 in
           let leads : leadsHome t p (m .labels) z ≡ true = and-left (leadsHome t p (m .labels) z) (not (marked m z)) (k .2) in
-          let i : List·Memᴰ z (below (t .zones)) = below-mem (t .zones) z (k .1) in
-          let now : marked (round t p m) z ≡ true = fold-marks (below (t .zones)) (λ x j. mem-below (t .zones) j) z i m s leads in
+          let i : List·Memᴰ z (numbersBelow (t .zones)) = below-mem (t .zones) z (k .1) in
+          let now : marked (round t p m) z ≡ true = fold-marks (numbersBelow (t .zones)) (λ x j. mem-below (t .zones) j) z i m s leads in
           inr
-          (count-less (waits t p (round t p m)) (waits t p m) (below (t .zones)) waited i (and-second (not (isFree p z)) (not (marked (round t p m) z)) (ap not now))
+          (how-many-less (waits t p (round t p m)) (waits t p m) (numbersBelow (t .zones)) waited i (and-second (not (isFree p z)) (not (marked (round t p m) z)) (ap not now))
           (and-both (not (isFree p z)) (not (marked m z)) (ap not (leads-held laid m z leads)) (and-right (leadsHome t p (m .labels) z) (not (marked m z)) (k .2))))
       by (inr e) = inl (λ z h leads. settle z leads (decided (marked m z)) (any-below-false new (t .zones) e z h))
         where
@@ -125,53 +125,53 @@ module _ {t : Track} {p : Position} (laid : Laid t p) where
           settle z leads (inl q) n = q
           settle z leads (inr q) n = both-ways (and-both (leadsHome t p (m .labels) z) (not (marked m z)) leads (ap not q)) n
 
-  rounds-settle : (n : ℕ) (m : Merging) → Sound t p m → Settled t p (times n (round t p) m) ⊎ (waiting t p (times n (round t p) m) + n ≤ waiting t p m)
+  rounds-settle : (n : ℕ) (m : Merging) → Sound t p m → Settled t p (nTimes n (round t p) m) ⊎ (waiting t p (nTimes n (round t p) m) + n ≤ waiting t p m)
   rounds-settle zero m s = inr (omega arith)
   rounds-settle (suc n) m s = by (settled-or-fewer m s) (rounds-settle n (round t p m) (sound-round laid m s))
     where
-      kept : Settled t p m → Settled t p (times n (round t p) (round t p m))
+      kept : Settled t p m → Settled t p (nTimes n (round t p) (round t p m))
       kept settled =
-          let q : times n (round t p) (round t p m) ≡ m = times-keeps (λ k. k ≡ m) (round t p) (λ k q. ap (round t p) q ∙ settled-round m s settled) (suc n) m refl in
+          let q : nTimes n (round t p) (round t p m) ≡ m = n-times-keeps (λ k. k ≡ m) (round t p) (λ k q. ap (round t p) q ∙ settled-round m s settled) (suc n) m refl in
           subst (Settled t p) (sym q) settled
 
-      by : Settled t p m ⊎ (waiting t p (round t p m) < waiting t p m) → Settled t p (times n (round t p) (round t p m)) ⊎ (waiting t p (times n (round t p) (round t p m)) + n ≤ waiting t p (round t p m)) → Settled t p (times n (round t p) (round t p m)) ⊎ (waiting t p (times n (round t p) (round t p m)) + suc n ≤ waiting t p m)
+      by : Settled t p m ⊎ (waiting t p (round t p m) < waiting t p m) → Settled t p (nTimes n (round t p) (round t p m)) ⊎ (waiting t p (nTimes n (round t p) (round t p m)) + n ≤ waiting t p (round t p m)) → Settled t p (nTimes n (round t p) (round t p m)) ⊎ (waiting t p (nTimes n (round t p) (round t p m)) + suc n ≤ waiting t p m)
       by (inl settled) rest = inl (kept settled)
       by (inr fewer) (inl settled) = inl settled
       by (inr fewer) (inr few) = inr (omega arith)
 
 -- as many pass among the numbers as among the places that hold them
-count-map : (f : ℕ → Bool) (g : ℕ → ℕ) (l : List ℕ) → count f (map g l) ≡ count (λ x. f (g x)) l
+count-map : (f : ℕ → Bool) (g : ℕ → ℕ) (l : List ℕ) → howMany f (map g l) ≡ howMany (λ x. f (g x)) l
 count-map f g [] = refl
 count-map f g (a ∷ l) = by (f (g a)) (count-map f g l)
   where
-    by : (b : Bool) → count f (map g l) ≡ count (λ x. f (g x)) l → length (consIf b (g a) (keep f (map g l))) ≡ length (consIf b a (keep (λ x. f (g x)) l))
+    by : (b : Bool) → howMany f (map g l) ≡ howMany (λ x. f (g x)) l → length (consIf b (g a) (keep f (map g l))) ≡ length (consIf b a (keep (λ x. f (g x)) l))
     by true e = ap suc e
     by false e = e
 
-by-places : (l : List ℕ) → map (λ i. getD l i 0) (below (length l)) ≡ l
+by-places : (l : List ℕ) → map (λ i. getD l i 0) (numbersBelow (length l)) ≡ l
 by-places l =
-    ext-getD 0 (map (λ i. getD l i 0) (below (length l))) l as-long
+    ext-getD 0 (map (λ i. getD l i 0) (numbersBelow (length l))) l as-long
     (λ i h. getD-map-below (λ j. getD l j 0) (length l) i 0 (subst (λ (n : ℕ). i < n) as-long h))
   where
-    as-long : length (map (λ i. getD l i 0) (below (length l))) ≡ length l
-    as-long = length-map (below (length l)) (λ i. getD l i 0) ∙ length-below (length l)
+    as-long : length (map (λ i. getD l i 0) (numbersBelow (length l))) ≡ length l
+    as-long = length-map (numbersBelow (length l)) (λ i. getD l i 0) ∙ length-below (length l)
 
 module _ {t : Track} {p : Position} (laid : Laid t p) where
   -- as many are out as zones hold a carrier
-  outs-counted : length (outs p) ≡ count (λ z. not (eqb (carrierOf (at p z)) 0)) (below (t .zones))
+  outs-counted : length (outs p) ≡ howMany (λ z. not (eqb (carrierOf (at p z)) 0)) (numbersBelow (t .zones))
   outs-counted =
       length-ascending (keep (λ c. not (eqb c 0)) (map carrierOf p))
       ∙ count-map (λ c. not (eqb c 0)) carrierOf p
-      ∙ ap (count (λ v. not (eqb (carrierOf v) 0))) (sym (by-places p))
-      ∙ count-map (λ v. not (eqb (carrierOf v) 0)) (λ i. getD p i 0) (below (length p))
-      ∙ ap (λ (n : ℕ). count (λ z. not (eqb (carrierOf (at p z)) 0)) (below n)) (laid .each)
+      ∙ ap (howMany (λ v. not (eqb (carrierOf v) 0))) (sym (by-places p))
+      ∙ count-map (λ v. not (eqb (carrierOf v) 0)) (λ i. getD p i 0) (numbersBelow (length p))
+      ∙ ap (λ (n : ℕ). howMany (λ z. not (eqb (carrierOf (at p z)) 0)) (numbersBelow n)) (laid .each)
 
   few-waiting : waiting t p (before t p) ≤ length (outs p)
   few-waiting =
       subst (λ (n : ℕ). waiting t p (before t p) ≤ n) (sym outs-counted)
-      (count-mono (waits t p (before t p)) (λ z. not (eqb (carrierOf (at p z)) 0)) (below (t .zones)) numbered)
+      (how-many-mono (waits t p (before t p)) (λ z. not (eqb (carrierOf (at p z)) 0)) (numbersBelow (t .zones)) numbered)
     where
-      numbered : (z : ℕ) → List·Memᴰ z (below (t .zones)) → waits t p (before t p) z ≡ true → not (eqb (carrierOf (at p z)) 0) ≡ true
+      numbered : (z : ℕ) → List·Memᴰ z (numbersBelow (t .zones)) → waits t p (before t p) z ≡ true → not (eqb (carrierOf (at p z)) 0) ≡ true
       numbered z i e =
           let free : isFree p z ≡ false = not-true (isFree p z) (and-left (not (isFree p z)) (not (marked (before t p) z)) e) in
           ap not (ne-eqb (carrierOf (at p z)) 0 (laid-numbered t p laid z (eqb-false (at p z) 0 free)))
@@ -181,14 +181,14 @@ module _ {t : Track} {p : Position} (laid : Laid t p) where
   settled-all z h leads = by (rounds-settle laid (length (outs p)) (before t p) (sound-before laid)) (decided (marked last z))
     where
       last : Merging
-      last = times (length (outs p)) (round t p) (before t p)
+      last = nTimes (length (outs p)) (round t p) (before t p)
 
       by : Settled t p last ⊎ (waiting t p last + length (outs p) ≤ waiting t p (before t p)) → (marked last z ≡ true) ⊎ (marked last z ≡ false) → marked last z ≡ true
       by (inl settled) m = settled z h leads
       by (inr few) (inl e) = e
       by (inr few) (inr e) =
           let most : waiting t p (before t p) ≤ length (outs p) = few-waiting in
-          let some : count (λ (x : ℕ). false) (below (t .zones)) < waiting t p last =
-          count-less (λ x. false) (waits t p last) (below (t .zones)) (λ x i q. both-ways q refl) (below-mem (t .zones) z h) refl
+          let some : howMany (λ (x : ℕ). false) (numbersBelow (t .zones)) < waiting t p last =
+          how-many-less (λ x. false) (waits t p last) (numbersBelow (t .zones)) (λ x i q. both-ways q refl) (below-mem (t .zones) z h) refl
           (and-both (not (isFree p z)) (not (marked last z)) (ap not (leads-held laid last z leads)) (ap not e)) in
           absurd (omega arith)

@@ -7,7 +7,7 @@ use mathlib.Core.List.{List, [], _∷_, _++_, map, map-append, append-assoc}
 use mathlib.Core.Path.{_≡_, sym, _∙_, ap, ap₂}
 use lib.ListN.{length, set, replicate, length-map, length-append, length-replicate}
 use lib.Seq.{set-at}
-use Rattle.model.specs.Lists.{below}
+use Rattle.model.specs.Lists.{numbersBelow}
 use Rattle.model.specs.Reading.{byte, trackSaid, positionSaid, zonesSaid, carrierIn, headingIn, endSaid}
 use Rattle.model.proofs.ListLaws.{length-below, below-suc}
 use Rattle.board.specs.Given.{padded}
@@ -15,30 +15,30 @@ use Rattle.board.specs.Inner.{ByteAt}
 
 -- n places: f of each of the first w, then zeros
 abbrev pub filled : ℕ → (ℕ → ℕ) → ℕ → List ℕ
-filled n f w = map f (below w) ++ replicate (n - w) 0
+filled n f w = map f (numbersBelow w) ++ replicate (n - w) 0
 
-pub length-mapped : (f : ℕ → ℕ) (w : ℕ) → length (map f (below w)) ≡ w
-length-mapped f w = length-map (below w) f ∙ length-below w
+pub length-mapped : (f : ℕ → ℕ) (w : ℕ) → length (map f (numbersBelow w)) ≡ w
+length-mapped f w = length-map (numbersBelow w) f ∙ length-below w
 
 filled-size : {e : List ℕ} (n : ℕ) (f : ℕ → ℕ) (w : ℕ) → e ≡ filled n f w → w ≤ n → length e ≡ n
 filled-size n f w e l =
-    ap length e ∙ length-append (map f (below w)) (replicate (n - w) 0) ∙ ap₂ (λ (x y : ℕ). x + y) (length-mapped f w) (length-replicate (n - w) 0) ∙ omega arith
+    ap length e ∙ length-append (map f (numbersBelow w)) (replicate (n - w) 0) ∙ ap₂ (λ (x y : ℕ). x + y) (length-mapped f w) (length-replicate (n - w) 0) ∙ omega arith
 
-pub map-next : (f : ℕ → ℕ) (n : ℕ) → map f (below (n + 1)) ≡ map f (below n) ++ (f n ∷ [])
-map-next f n = ap (λ (k : ℕ). map f (below k)) (add-one n) ∙ ap (map f) (below-suc n) ∙ map-append f (below n) (n ∷ [])
+pub map-next : (f : ℕ → ℕ) (n : ℕ) → map f (numbersBelow (n + 1)) ≡ map f (numbersBelow n) ++ (f n ∷ [])
+map-next f n = ap (λ (k : ℕ). map f (numbersBelow k)) (add-one n) ∙ ap (map f) (below-suc n) ∙ map-append f (numbersBelow n) (n ∷ [])
 
 zeros-next : (n w : ℕ) → w < n → _≡_ {A = List ℕ} (replicate (n - w) 0) (0 ∷ replicate (n - (w + 1)) 0)
 zeros-next n w l = ap (λ (k : ℕ). replicate k 0) (let e : n - w ≡ suc (n - (w + 1)) = omega arith in e)
 
 pub filled-next : (n : ℕ) (f : ℕ → ℕ) (w : ℕ) → w < n → set (filled n f w) w (f w) ≡ filled n f (w + 1)
 filled-next n f w l =
-    ap (λ (r : List ℕ). set (map f (below w) ++ r) w (f w)) (zeros-next n w l) ∙
-    set-at (map f (below w)) 0 (replicate (n - (w + 1)) 0) (f w) w (length-mapped f w) ∙
-    sym (ap (λ (r : List ℕ). r ++ replicate (n - (w + 1)) 0) (map-next f w) ∙ append-assoc (map f (below w)) (f w ∷ []) (replicate (n - (w + 1)) 0))
+    ap (λ (r : List ℕ). set (map f (numbersBelow w) ++ r) w (f w)) (zeros-next n w l) ∙
+    set-at (map f (numbersBelow w)) 0 (replicate (n - (w + 1)) 0) (f w) w (length-mapped f w) ∙
+    sym (ap (λ (r : List ℕ). r ++ replicate (n - (w + 1)) 0) (map-next f w) ∙ append-assoc (map f (numbersBelow w)) (f w ∷ []) (replicate (n - (w + 1)) 0))
 
-padded-is : (n : ℕ) (f : ℕ → ℕ) (w : ℕ) → padded n (map f (below w)) ≡ filled n f w
+padded-is : (n : ℕ) (f : ℕ → ℕ) (w : ℕ) → padded n (map f (numbersBelow w)) ≡ filled n f w
 unfolding padded
-padded-is n f w = ap (λ (k : ℕ). map f (below w) ++ replicate (n - k) 0) (length-mapped f w)
+padded-is n f w = ap (λ (k : ℕ). map f (numbersBelow w) ++ replicate (n - k) 0) (length-mapped f w)
 
 pub ends-filled : (b : List ℕ) → padded 192 (trackSaid b .ends) ≡ filled 192 (endSaid b) (2 * zonesSaid b)
 unfolding trackSaid

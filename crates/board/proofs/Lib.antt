@@ -6,3 +6,4 @@ pub mod Doubling
 pub mod Together
 pub mod Order
 pub mod GivenLaws
+pub mod ReadBoard

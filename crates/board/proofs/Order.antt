@@ -7,7 +7,7 @@ use mathlib.Core.Path.{_≡_, refl, sym, _∙_}
 use mathlib.Core.Bool.{Bool, true, false, cond}
 use lib.ListN.{length}
 use borrow.Author.Tests.{eqb-true, ltb-false, not-false}
-use Rattle.model.specs.Lists.{below, any}
+use Rattle.model.specs.Lists.{numbersBelow, anyOf}
 use Rattle.model.specs.Reading.{tooShort, wrongLength, wrongVersion, outOfRange, wrongCount, badZone, repeated, underTwo, apart, refusal, lengthSaid, zonesSaid, pointsSaid}
 use Rattle.board.specs.Inner.{Whole, zoneRefusal, linkRefusal}
 
@@ -18,7 +18,7 @@ answered e f = sym e ∙ f
 module _ (b : List ℕ) where
   -- rows 6 and 7, and a number for where neither holds
   abbrev zonesThen : ℕ → ℕ
-  zonesThen n = cond (any (badZone b) (below (zonesSaid b))) 6 (cond (any (repeated b) (below (zonesSaid b))) 7 n)
+  zonesThen n = cond (anyOf (badZone b) (numbersBelow (zonesSaid b))) 6 (cond (anyOf (repeated b) (numbersBelow (zonesSaid b))) 7 n)
 
   pub row-1 : tooShort b ≡ true → 1 ≡ refusal b
   unfolding refusal
@@ -48,7 +48,7 @@ module _ (b : List ℕ) where
 
       pub rows-6-7 : {n : ℕ} → n ≡ zoneRefusal b → (n ≡ 0 → ⊥) → n ≡ refusal b
       unfolding zoneRefusal
-      rows-6-7 {n} h k = h ∙ go (any (badZone b) (below (zonesSaid b))) (any (repeated b) (below (zonesSaid b))) (λ z. k (h ∙ z)) ∙ sym later-rows
+      rows-6-7 {n} h k = h ∙ go (anyOf (badZone b) (numbersBelow (zonesSaid b))) (anyOf (repeated b) (numbersBelow (zonesSaid b))) (λ z. k (h ∙ z)) ∙ sym later-rows
         where
           go : (s t : Bool) → (_≡_ {A = ℕ} (cond s 6 (cond t 7 0)) 0 → ⊥) → _≡_ {A = ℕ} (cond s 6 (cond t 7 0)) (cond s 6 (cond t 7 (linkRefusal b)))
           go true t n = refl
@@ -57,7 +57,7 @@ module _ (b : List ℕ) where
 
       pub rows-8-9 : {m n : ℕ} → m ≡ zoneRefusal b → m ≡ 0 → n ≡ linkRefusal b → n ≡ refusal b
       unfolding zoneRefusal
-      rows-8-9 h k g = g ∙ sym (later-rows ∙ go (any (badZone b) (below (zonesSaid b))) (any (repeated b) (below (zonesSaid b))) (sym h ∙ k))
+      rows-8-9 h k g = g ∙ sym (later-rows ∙ go (anyOf (badZone b) (numbersBelow (zonesSaid b))) (anyOf (repeated b) (numbersBelow (zonesSaid b))) (sym h ∙ k))
         where
           go : (s t : Bool) → _≡_ {A = ℕ} (cond s 6 (cond t 7 0)) 0 → cond s 6 (cond t 7 (linkRefusal b)) ≡ linkRefusal b
           go true t n = absurd (omega arith)
@@ -65,36 +65,36 @@ module _ (b : List ℕ) where
           go false false n = refl
 
   -- rows 6 and 7 by their tests
-  pub row-6 : true ≡ any (badZone b) (below (zonesSaid b)) → 6 ≡ zoneRefusal b
+  pub row-6 : true ≡ anyOf (badZone b) (numbersBelow (zonesSaid b)) → 6 ≡ zoneRefusal b
   unfolding zoneRefusal
   row-6 e = sym (simp (sym e))
 
-  pub row-7 : false ≡ any (badZone b) (below (zonesSaid b)) → true ≡ any (repeated b) (below (zonesSaid b)) → 7 ≡ zoneRefusal b
+  pub row-7 : false ≡ anyOf (badZone b) (numbersBelow (zonesSaid b)) → true ≡ anyOf (repeated b) (numbersBelow (zonesSaid b)) → 7 ≡ zoneRefusal b
   unfolding zoneRefusal
   row-7 e f = sym (simp (sym e, sym f))
 
-  pub neither-6-7 : false ≡ any (badZone b) (below (zonesSaid b)) → false ≡ any (repeated b) (below (zonesSaid b)) → 0 ≡ zoneRefusal b
+  pub neither-6-7 : false ≡ anyOf (badZone b) (numbersBelow (zonesSaid b)) → false ≡ anyOf (repeated b) (numbersBelow (zonesSaid b)) → 0 ≡ zoneRefusal b
   unfolding zoneRefusal
   neither-6-7 e f = sym (simp (sym e, sym f))
 
-  pub no-bad-zone : zoneRefusal b ≡ 0 → any (badZone b) (below (zonesSaid b)) ≡ false
+  pub no-bad-zone : zoneRefusal b ≡ 0 → anyOf (badZone b) (numbersBelow (zonesSaid b)) ≡ false
   unfolding zoneRefusal
-  no-bad-zone = go (any (badZone b) (below (zonesSaid b)))
+  no-bad-zone = go (anyOf (badZone b) (numbersBelow (zonesSaid b)))
     where
-      go : (s : Bool) → _≡_ {A = ℕ} (cond s 6 (cond (any (repeated b) (below (zonesSaid b))) 7 0)) 0 → s ≡ false
+      go : (s : Bool) → _≡_ {A = ℕ} (cond s 6 (cond (anyOf (repeated b) (numbersBelow (zonesSaid b))) 7 0)) 0 → s ≡ false
       go true n = absurd (omega arith)
       go false n = refl
 
   -- rows 8 and 9 by their tests
-  pub row-8 : any (underTwo b) (below (pointsSaid b)) ≡ true → 8 ≡ linkRefusal b
+  pub row-8 : anyOf (underTwo b) (numbersBelow (pointsSaid b)) ≡ true → 8 ≡ linkRefusal b
   unfolding linkRefusal
   row-8 e = sym (simp e)
 
-  pub row-9 : any (underTwo b) (below (pointsSaid b)) ≡ false → apart b ≡ true → 9 ≡ linkRefusal b
+  pub row-9 : anyOf (underTwo b) (numbersBelow (pointsSaid b)) ≡ false → apart b ≡ true → 9 ≡ linkRefusal b
   unfolding linkRefusal
   row-9 e f = sym (simp (e, f))
 
-  pub neither-8-9 : any (underTwo b) (below (pointsSaid b)) ≡ false → apart b ≡ false → 0 ≡ linkRefusal b
+  pub neither-8-9 : anyOf (underTwo b) (numbersBelow (pointsSaid b)) ≡ false → apart b ≡ false → 0 ≡ linkRefusal b
   unfolding linkRefusal
   neither-8-9 e f = sym (simp (e, f))
 

@@ -10,14 +10,14 @@ use lib.ListN.{length, getD, set, replicate, length-set, getD-replicate}
 use lib.Seq.{getD-set-same, getD-set-other}
 use lib.Dec.{eqb}
 use borrow.Author.Tests.{ne-eqb, eqb-true, eqb-false}
-use Rattle.model.specs.Lists.{below, any}
+use Rattle.model.specs.Lists.{numbersBelow, anyOf}
 use Rattle.model.specs.Reading.{repeated, carrierIn}
 use Rattle.model.proofs.ListLaws.{any-append, below-any, below-suc}
 use Rattle.board.specs.Inner.{ByteAt}
 
 -- carrier c stands in a zone before z
 abbrev pub stoodBefore : List ℕ → ℕ → ℕ → Bool
-stoodBefore b c z = any (λ y. eqb (carrierIn b y) c) (below z)
+stoodBefore b c z = anyOf (λ y. eqb (carrierIn b y) c) (numbersBelow z)
 
 -- the carriers of the zones before z
 pub record Seen (b : List ℕ) (seen : List Bool) (z : ℕ) : Type 0 where
@@ -25,8 +25,8 @@ pub record Seen (b : List ℕ) (seen : List Bool) (z : ℕ) : Type 0 where
   pub holds : (c : ℕ) → c < 256 → (c ≡ 0 → ⊥) → getD seen c false ≡ stoodBefore b c z
 
 -- one that doesn't pass adds nothing
-any-next : (f : ℕ → Bool) (n : ℕ) → f n ≡ false → any f (below (suc n)) ≡ any f (below n)
-any-next f n e = ap (any f) (below-suc n) ∙ any-append f (below n) (n ∷ []) ∙ ap (λ (t : Bool). any f (below n) || (t || false)) e ∙ or-false (any f (below n))
+any-next : (f : ℕ → Bool) (n : ℕ) → f n ≡ false → anyOf f (numbersBelow (suc n)) ≡ anyOf f (numbersBelow n)
+any-next f n e = ap (anyOf f) (below-suc n) ∙ any-append f (numbersBelow n) (n ∷ []) ∙ ap (λ (t : Bool). anyOf f (numbersBelow n) || (t || false)) e ∙ or-false (anyOf f (numbersBelow n))
 
 pub seen-first : (b : List ℕ) → Seen b (replicate 256 false) 0
 seen-first b = record { size = refl; holds = λ c l n. getD-replicate 256 c false false l }
@@ -60,15 +60,15 @@ module _ {b : List ℕ} {seen : List Bool} {z c : ℕ} (S : Seen b seen z) (C : 
   repeated-free e = ap (λ (x : ℕ). not (eqb x 0) && stoodBefore b x z) (sym (C .is) ∙ e)
 
   -- whether a carrier stood before, of one zone more
-  module _ {t : Bool} (T : t ≡ any (repeated b) (below z)) where
-    same-next : repeated b z ≡ false → t ≡ any (repeated b) (below (z + 1))
-    same-next e = T ∙ sym (ap (λ (x : ℕ). any (repeated b) (below x)) (add-one z) ∙ any-next (repeated b) z e)
+  module _ {t : Bool} (T : t ≡ anyOf (repeated b) (numbersBelow z)) where
+    same-next : repeated b z ≡ false → t ≡ anyOf (repeated b) (numbersBelow (z + 1))
+    same-next e = T ∙ sym (ap (λ (x : ℕ). anyOf (repeated b) (numbersBelow x)) (add-one z) ∙ any-next (repeated b) z e)
 
-    pub again-free : c ≡ 0 → t ≡ any (repeated b) (below (z + 1))
+    pub again-free : c ≡ 0 → t ≡ anyOf (repeated b) (numbersBelow (z + 1))
     again-free e = same-next (repeated-free e)
 
-    pub again-new : (c ≡ 0 → ⊥) → getD seen c false ≡ false → t ≡ any (repeated b) (below (z + 1))
+    pub again-new : (c ≡ 0 → ⊥) → getD seen c false ≡ false → t ≡ anyOf (repeated b) (numbersBelow (z + 1))
     again-new n e = same-next (repeated-is n ∙ e)
 
-  pub again-met : (c ≡ 0 → ⊥) → getD seen c false ≡ true → true ≡ any (repeated b) (below (z + 1))
+  pub again-met : (c ≡ 0 → ⊥) → getD seen c false ≡ true → true ≡ anyOf (repeated b) (numbersBelow (z + 1))
   again-met n e = sym (below-any (repeated b) (z + 1) z (omega arith) (repeated-is n ∙ e))

@@ -9,7 +9,7 @@ use lib.ListN.{length, getD, replicate, length-set}
 use lib.Bits.{bitOr}
 use lib.Dec.{eqb}
 use borrow.Author.Tests.{eqb-true, eqb-false, eq-eqb}
-use Rattle.model.specs.Lists.{below, any, all, count}
+use Rattle.model.specs.Lists.{numbersBelow, anyOf, allOf, howMany}
 use Rattle.model.specs.Track.{Linked, rev, start, leave}
 use Rattle.model.specs.Track.Linked.{here}
 use Rattle.model.specs.Labels.{label, parts}
@@ -19,16 +19,16 @@ use Rattle.model.proofs.WordLaws.{rev-below}
 use Rattle.model.proofs.LabelLaws.{parts-linked, linked-parts}
 use Rattle.model.proofs.ReadingLaws.{in-range, start-in, start-said}
 use Rattle.bits.specs.Sets.{hasBit}
-use Rattle.points.specs.Ways.{Ways, Reach, Over, Grown}
-use Rattle.points.specs.Ways.Reach.{here as stays, on}
-use Rattle.points.proofs.WayLaws.{added}
-use Rattle.points.proofs.OverLaws.{over-none, over-added, over-ways, over-same}
-use Rattle.points.proofs.LinkedLaws.{reach-linked, linked-reach}
-use Rattle.points.proofs.ReachedLaws.{size-reached, reached-size}
+use Rattle.reach.specs.Ways.{Ways, Reach, WaysOver, Grown}
+use Rattle.reach.specs.Ways.Reach.{here as stays, on}
+use Rattle.reach.proofs.WayLaws.{added}
+use Rattle.reach.proofs.OverLaws.{over-none, over-added, over-ways, over-same}
+use Rattle.reach.proofs.LinkedLaws.{reach-linked, linked-reach}
+use Rattle.reach.proofs.ReachedLaws.{size-reached, reached-size}
 use Rattle.board.proofs.Filling.{first-end, second-end}
 use Rattle.board.specs.Inner.{ByteAt, Inside, WaysOf}
 
-pub inside : (b : List ℕ) → outOfRange b ≡ false → any (badZone b) (below (zonesSaid b)) ≡ false → Inside b
+pub inside : (b : List ℕ) → outOfRange b ≡ false → anyOf (badZone b) (numbersBelow (zonesSaid b)) ≡ false → Inside b
 inside b range zones = record {
   points-most = in-range b range .points-most;
   home-in = in-range b range .home-in;
@@ -102,7 +102,7 @@ module _ {b ways : List ℕ} (I : Inside b) (L : WaysOf b ways (2 * zonesSaid b)
   start-inside w l = subst (λ (x : ℕ). x < pointsSaid b) (sym (start-said b w l)) (I .word-in w l)
 
   -- the ways are those of the track's words
-  over-track : Over (start (trackSaid b)) (leave (trackSaid b)) (λ w. true) (2 * trackSaid b .zones) ways
+  over-track : WaysOver (start (trackSaid b)) (leave (trackSaid b)) (λ w. true) (2 * trackSaid b .zones) ways
   unfolding trackSaid
   over-track = over-same (λ w l. sym (start-said b w l)) (λ w l. sym (start-said b (rev w) (rev-below (zonesSaid b) w l))) L
 
@@ -126,18 +126,18 @@ module _ {b ways : List ℕ} (I : Inside b) (L : WaysOf b ways (2 * zonesSaid b)
     grown-home : Grown ways (homeSaid b) s
     grown-home = subst (λ (x : ℕ). Grown ways x s) (H .is) G
 
-    all-together : (t : Bool) → eqb (count (hasBit s) (below 64)) (pointsSaid b) ≡ t → all together (below (pointsSaid b)) ≡ t
+    all-together : (t : Bool) → eqb (howMany (hasBit s) (numbersBelow 64)) (pointsSaid b) ≡ t → allOf together (numbersBelow (pointsSaid b)) ≡ t
     all-together true e =
         below-all together (pointsSaid b)
-        (λ q l. reach-together q (size-reached (pointsSaid b) (I .points-most) grown-home reach-inside (eqb-true (count (hasBit s) (below 64)) (pointsSaid b) e) q l))
-    all-together false e = go (all together (below (pointsSaid b))) refl
+        (λ q l. reach-together q (size-reached (pointsSaid b) (I .points-most) grown-home reach-inside (eqb-true (howMany (hasBit s) (numbersBelow 64)) (pointsSaid b) e) q l))
+    all-together false e = go (allOf together (numbersBelow (pointsSaid b))) refl
       where
-        go : (t : Bool) → all together (below (pointsSaid b)) ≡ t → all together (below (pointsSaid b)) ≡ false
+        go : (t : Bool) → allOf together (numbersBelow (pointsSaid b)) ≡ t → allOf together (numbersBelow (pointsSaid b)) ≡ false
         go true f =
-            absurd (eqb-false (count (hasBit s) (below 64)) (pointsSaid b) e
+            absurd (eqb-false (howMany (hasBit s) (numbersBelow 64)) (pointsSaid b) e
             (reached-size (pointsSaid b) (I .points-most) grown-home reach-inside (λ q l. together-reach q l (all-below together (pointsSaid b) f q l))))
         go false f = f
 
-    pub apart-row : {p n : ℕ} → ByteAt b 3 p → n ≡ count (hasBit s) (below 64) → not (eqb n p) ≡ apart b
+    pub apart-row : {p n : ℕ} → ByteAt b 3 p → n ≡ howMany (hasBit s) (numbersBelow 64) → not (eqb n p) ≡ apart b
     unfolding apart
-    apart-row {p} {n} P e = ap not (ap (λ (x : ℕ). eqb x p) e ∙ ap (eqb (count (hasBit s) (below 64))) (P .is) ∙ sym (all-together (eqb (count (hasBit s) (below 64)) (pointsSaid b)) refl))
+    apart-row {p} {n} P e = ap not (ap (λ (x : ℕ). eqb x p) e ∙ ap (eqb (howMany (hasBit s) (numbersBelow 64))) (P .is) ∙ sym (all-together (eqb (howMany (hasBit s) (numbersBelow 64)) (pointsSaid b)) refl))

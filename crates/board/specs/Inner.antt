@@ -6,11 +6,11 @@ use mathlib.Core.Path.{_≡_}
 use lib.ListN.{length}
 use mathlib.Core.Bool.{true, cond}
 use lib.Dec.{leb, eqb}
-use Rattle.model.specs.Lists.{below, any, count}
+use Rattle.model.specs.Lists.{numbersBelow, anyOf, howMany}
 use Rattle.model.specs.Track.{rev}
 use Rattle.model.specs.Reading.{byte, endSaid, pointsSaid, homeSaid, zonesSaid, badZone, repeated, underTwo, apart}
 use Rattle.bits.specs.Sets.{hasBit}
-use Rattle.points.specs.Ways.{Over}
+use Rattle.reach.specs.Ways.{WaysOver}
 
 -- a byte that was read
 pub record ByteAt (b : List ℕ) (i r : ℕ) : Type 0 where
@@ -23,11 +23,11 @@ Whole b = length b ≡ 4 * zonesSaid b + 6
 
 -- rows 6 and 7, where none before them holds
 unfoldable pub zoneRefusal : List ℕ → ℕ
-zoneRefusal b = cond (any (badZone b) (below (zonesSaid b))) 6 (cond (any (repeated b) (below (zonesSaid b))) 7 0)
+zoneRefusal b = cond (anyOf (badZone b) (numbersBelow (zonesSaid b))) 6 (cond (anyOf (repeated b) (numbersBelow (zonesSaid b))) 7 0)
 
 -- rows 8 and 9, where none before them holds
 unfoldable pub linkRefusal : List ℕ → ℕ
-linkRefusal b = cond (any (underTwo b) (below (pointsSaid b))) 8 (cond (apart b) 9 0)
+linkRefusal b = cond (anyOf (underTwo b) (numbersBelow (pointsSaid b))) 8 (cond (apart b) 9 0)
 
 -- what rows 4 and 6 leave: every number of a point is below P, and P is at most 64
 pub record Inside (b : List ℕ) : Type 0 where
@@ -37,11 +37,11 @@ pub record Inside (b : List ℕ) : Type 0 where
 
 -- the ways are those of the first w words
 abbrev pub WaysOf : List ℕ → List ℕ → ℕ → Type 0
-WaysOf b ways w = Over (endSaid b) (λ v. endSaid b (rev v)) (λ v. true) w ways
+WaysOf b ways w = WaysOver (endSaid b) (λ v. endSaid b (rev v)) (λ v. true) w ways
 
 -- how many of the first w words start at point p
 abbrev pub startsAt : List ℕ → ℕ → ℕ → ℕ
-startsAt b w p = count (eqb p) (map (endSaid b) (below w))
+startsAt b w p = howMany (eqb p) (map (endSaid b) (numbersBelow w))
 
 -- the points where two words or more start
 pub record Doubled (b : List ℕ) (twice : ℕ) : Type 0 where

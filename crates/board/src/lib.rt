@@ -6,6 +6,7 @@ mod input;
 mod links;
 mod zones;
 
+use model::Head;
 ghost use mathlib.Core.Path.{_≡_};
 ghost use lib.ListN.{replicate};
 ghost use Rattle.model.specs.Reading.{refusal};
@@ -13,22 +14,18 @@ ghost use Rattle.board.specs.Given.{boardOf, boardWith};
 
 // The ends of zone z are ends[2 * z] and ends[2 * z + 1]. A zone's place in position is 0 where it
 // is free, else 2 × carrier + heading. Both arrays hold zeros past the last zone, and on a refusal
-// every field but number is zero.
+// every number but the refusal's own is zero.
 pub struct Board {
     pub number: u32,
-    pub points: usize,
-    pub home: usize,
-    pub zones: usize,
+    pub head: Head,
     pub ends: [usize; 192],
     pub position: [u32; 96],
 }
 
 // A board but for its arrays.
-pub struct BoardHead {
+pub struct ReadHead {
     pub number: u32,
-    pub points: usize,
-    pub home: usize,
-    pub zones: usize,
+    pub head: Head,
 }
 
 // The rows in rising order: the first that holds.
@@ -58,28 +55,34 @@ fn refusal_of(bytes: &[u8]) -> u32
 }
 
 // Reads the board into arrays that the caller lends filled with zeros.
-pub fn read_into(bytes: &[u8], ends: &mut [usize], position: &mut [u32]) -> BoardHead
+pub fn read_into(bytes: &[u8], ends: &mut [usize], position: &mut [u32]) -> ReadHead
     requires { ⌜ (now ends ≡ replicate 192 0) × (now position ≡ replicate 96 0) ⌝ }
     ensures { λ r. ⌜ boardWith r (now (ends .exit)) (now (position .exit)) ≡ boardOf (now (bytes .entry)) ⌝ }
 {
     let number = refusal_of(bytes);
     if number != 0 {
-        return BoardHead {
-            number: number,
+        let head = Head {
             points: 0,
             home: 0,
             zones: 0,
+        };
+        return ReadHead {
+            number: number,
+            head: head,
         };
     }
     let points = input::byte(bytes, 3);
     let home = input::byte(bytes, 4);
     let zones = input::byte(bytes, 5);
     fill::arrays(bytes, ends, position);
-    BoardHead {
-        number: 0,
+    let head = Head {
         points: points,
         home: home,
         zones: zones,
+    };
+    ReadHead {
+        number: 0,
+        head: head,
     }
 }
 
@@ -89,12 +92,11 @@ pub fn read(bytes: &[u8]) -> Board
 {
     let mut ends = [0usize; 192];
     let mut position = [0u32; 96];
-    let head = read_into(bytes, &mut ends, &mut position);
+    let read = read_into(bytes, &mut ends, &mut position);
+    let head = read.head;
     Board {
-        number: head.number,
-        points: head.points,
-        home: head.home,
-        zones: head.zones,
+        number: read.number,
+        head: head,
         ends: ends,
         position: position,
     }

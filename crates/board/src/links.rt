@@ -31,8 +31,8 @@ fn add_ways(bytes: &[u8], ways: &mut [u64]) -> u64
         once = bits::with(once, a);
         twice = add_second(once, twice, b);
         once = bits::with(once, b);
-        points::add_way(ways, a, b);
-        points::add_way(ways, b, a);
+        reach::add_way(ways, a, b);
+        reach::add_way(ways, b, a);
         z += 1;
     }
     twice
@@ -48,11 +48,11 @@ pub fn refusal(bytes: &[u8]) -> u32
     let home = byte(bytes, 4);
     let mut ways = [0u64; 64];
     let twice = add_ways(bytes, &mut ways);
-    let under_two = bits::without(bits::all(points), bits::with(twice, home));
+    let under_two = bits::minus(bits::all(points), bits::with(twice, home));
     if under_two != 0 {
         return 8;
     }
-    let reached = points::grow(&ways, home);
+    let reached = reach::grow(&ways, home);
     if bits::size(reached) != points {
         return 9;
     }

@@ -41,11 +41,12 @@ fn say_position(position: &[u32], zones: usize) {
 
 fn say_all(bytes: &[u8]) {
     let board = board::read(bytes);
+    let head = board.head;
     io::write_all(1, b" points");
-    item(board.points as u64);
+    item(head.points as u64);
     io::write_all(1, b" home");
-    item(board.home as u64);
-    let zones = board.zones;
+    item(head.home as u64);
+    let zones = head.zones;
     io::write_all(1, b" zones");
     item(zones as u64);
     let ends = board.ends;

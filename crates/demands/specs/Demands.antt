@@ -1,7 +1,7 @@
 -- Demands 2 and 3 in the words of document 01, of the answers that the operations give on an accepted board.
 -- They speak of routes, orders, tries and moves as relations; no search has to be believed to read them.
 use Prim.Native.Nat.{ℕ, _*_, _≤_, _<_}
-use mathlib.Core.List.{List, List·Memᴰ}
+use mathlib.Core.List.{List, [], List·Memᴰ}
 use mathlib.Core.Path.{_≡_}
 use mathlib.Core.Bool.{false}
 use mathlib.Core.Logic.{_⊎_, _↔_}
@@ -12,7 +12,7 @@ use Rattle.model.specs.Position.{Position, Stands, Out, isFree}
 use Rattle.rules.specs.Routes.{Entry, Retires, Empty, Ordered, Blocked}
 use Rattle.rules.specs.Tries.{NoneCanGo, Tries, Move, Moves}
 use Rattle.rules.specs.Key.{planWords}
-use Rattle.order.specs.Lowest.{Lowest}
+use Rattle.order.specs.LowestFirst.{LowestFirst}
 use Rattle.order.specs.HowManyBlocked.{OneBlocked, TwoBlocked}
 
 -- demand 2, of a key with this verdict, these words of the plan and these numbers of the list
@@ -23,12 +23,14 @@ pub record KeyRight (t : Track) (p : Position) (verdict : ℕ) (plan list : List
   pub written : plan ≡ planWords entries
   pub retires : Retires t p entries last
   -- at each turn the lowest-numbered carrier that can go leaves, by its least route
-  pub lowest : Lowest t p entries last
+  pub lowest : LowestFirst t p entries last
   -- no route has more than 2 × Z words
   pub short : (e : Entry) → List·Memᴰ e entries → length (e .words) ≤ 2 * t .zones
   -- "ordered" is said exactly where some order satisfies Definition 3, and then this plan gives one
   pub ordered : (verdict ≡ 0) ↔ Ordered t p
   pub order-given : verdict ≡ 0 → Empty last
+  -- with verdict 0 there are none named
+  pub none-named : verdict ≡ 0 → list ≡ []
   -- 20 exactly where two or more are blocked, 21 exactly where one is, and nothing else is said
   pub two-blocked : (verdict ≡ 20) ↔ TwoBlocked t p
   pub one-blocked : (verdict ≡ 21) ↔ OneBlocked t p

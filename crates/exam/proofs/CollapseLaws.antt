@@ -9,17 +9,19 @@ use lib.ListN.{length, take, drop}
 use lib.Seq.{take-at}
 use borrow.Author.Tests.{lt-ltb, le-ltb}
 use Rattle.model.specs.Track.{Track}
-use Rattle.model.specs.Position.{Position, outs}
+use Rattle.model.specs.Position.{Position, onlyLeft, outs}
 use Rattle.rules.specs.Collapse.{CollapseAnswer, collapseIn, left}
 use Rattle.rules.specs.Key.{named}
 use Rattle.order.proofs.Within.{Within}
+use Rattle.order.proofs.OnlyLeft.{within-only}
 use Rattle.order.proofs.Sizes.{named-most}
 use Rattle.blocking.proofs.SameList.{collapse-same}
-use Rattle.carriers.specs.Numbers.{Listable, Listed}
+use Rattle.carriers.specs.Listing.{Listable, Listed}
 use Rattle.parts.specs.Home.{Collapsed}
 use Rattle.parts.proofs.TakenOff.{length-left}
 use Rattle.parts.proofs.LeftCarriers.{left-cases}
-use Rattle.exam.specs.Parsed.{Ready, CollapseGiven}
+use Rattle.model.specs.Accepted.{Ready}
+use Rattle.exam.specs.Parsed.{CollapseGiven}
 use Rattle.exam.proofs.ReadyLaws.{listable}
 
 module _ (t : Track) (p : Position) (room : ℕ) where
@@ -37,35 +39,45 @@ module _ (t : Track) (p : Position) (room : ℕ) where
 pub collapse-refused : (t : Track) (p : Position) (list : List ℕ) → length list < length (outs p) → CollapseGiven (collapseIn t p (length list)) list 11 0 list
 collapse-refused t p list h =
     let e = collapse-short t p (length list) h in
-    record { number-is = rw e; count-is = rw e; list-is = rw e }
+    record { number-is = rw e; listed-is = rw e; list-is = rw e }
 
-module _ {t : Track} {p q : Position} {list : List ℕ} (collapsed : Collapsed t p q) (room : length (outs p) ≤ length list) where
+collapsed-within : {t : Track} {p q : Position} → Collapsed t p q → Within q p
+collapsed-within {t} {p} collapsed =
+    subst (λ (s : Position). Within s p) (sym (collapsed .rest)) (record { as-long = length-left (t .ends) (collapsed .set) p; kept = left-cases (t .ends) (collapsed .set) p })
+
+module _ {t : Track} {p q : Position} (list : List ℕ) (collapsed : Collapsed t p q) (room : length (outs p) ≤ length list) where
   -- the carriers left can be listed
   pub collapse-listable : Ready t p → Listable q list
   collapse-listable ready =
-      listable ready (subst (λ (s : Position). Within s p) (sym (collapsed .rest)) (record { as-long = length-left (t .ends) (collapsed .set) p; kept = left-cases (t .ends) (collapsed .set) p }))
-      (omega (arith, ap length (collapsed .carriers), ap length (collapse-same (ready .parsed .laid)), named-most t p (ready .parsed .laid)))
+      listable ready (collapsed-within collapsed)
+      (omega (arith, ap length (collapsed .carriers), ap length (collapse-same (ready .bounded .laid)), named-most t p (ready .bounded .laid)))
+
+  -- the position has only those
+  pub collapse-position : Ready t p → q ≡ onlyLeft (collapseIn t p (length list) .list) p
+  collapse-position ready =
+      within-only (collapsed-within collapsed) (ready .bounded .laid) ∙
+      ap (λ (l : List ℕ). onlyLeft l p) (collapsed .carriers ∙ sym (ap (λ (a : CollapseAnswer). a .list) (collapse-long t p (length list) room)))
 
   -- and their list is the collapse's answer
-  pub collapse-given : {count : ℕ} {list′ : List ℕ} → Listed q list count list′ → CollapseGiven (collapseIn t p (length list)) list 0 count list′
-  collapse-given listed =
+  pub collapse-given : {listed : ℕ} {list′ : List ℕ} → Listed q list listed list′ → CollapseGiven (collapseIn t p (length list)) list 0 listed list′
+  collapse-given listing =
       let e = collapse-long t p (length list) room in
       record {
         number-is = rw e;
-        count-is = rw e (listed .counted ∙ ap length (collapsed .carriers));
-        list-is = rw e (listed .written ∙ ap (λ (l : List ℕ). l ++ drop (length l) list) (collapsed .carriers));
+        listed-is = rw e (listing .counted ∙ ap length (collapsed .carriers));
+        list-is = rw e (listing .written ∙ ap (λ (l : List ℕ). l ++ drop (length l) list) (collapsed .carriers));
       }
 
 -- where the list is long enough, what was written is the key's list
-module _ {t : Track} {p : Position} (ready : Ready t p) {list list′ : List ℕ} {number count : ℕ} (given : CollapseGiven (collapseIn t p (length list)) list number count list′) (room : length (outs p) ≤ length list) where
+module _ {t : Track} {p : Position} (ready : Ready t p) {list list′ : List ℕ} {number listed : ℕ} (given : CollapseGiven (collapseIn t p (length list)) list number listed list′) (room : length (outs p) ≤ length list) where
   answer : collapseIn t p (length list) .list ≡ named t p
-  answer = ap (λ (a : CollapseAnswer). a .list) (collapse-long t p (length list) room) ∙ collapse-same (ready .parsed .laid)
+  answer = ap (λ (a : CollapseAnswer). a .list) (collapse-long t p (length list) room) ∙ collapse-same (ready .bounded .laid)
 
-  pub named-counted : count ≡ length (named t p)
-  named-counted = given .count-is ∙ ap length answer
+  pub named-counted : listed ≡ length (named t p)
+  named-counted = given .listed-is ∙ ap length answer
 
-  pub named-written : take count list′ ≡ named t p
-  named-written = ap (take count) (given .list-is) ∙ take-at (collapseIn t p (length list) .list) _ count (sym (given .count-is)) ∙ answer
+  pub named-written : take listed list′ ≡ named t p
+  named-written = ap (take listed) (given .list-is) ∙ take-at (collapseIn t p (length list) .list) _ listed (sym (given .listed-is)) ∙ answer
 
-  pub named-fits : count ≤ length list
-  named-fits = omega (arith, named-counted, named-most t p (ready .parsed .laid))
+  pub named-fits : listed ≤ length list
+  named-fits = omega (arith, named-counted, named-most t p (ready .bounded .laid))

@@ -22,12 +22,13 @@ use Rattle.demands.specs.Demands.{NamedRight}
 use Rattle.demands.proofs.NamedMet.{named-right}
 use Rattle.board.specs.declared.Board.{Board}
 use Rattle.board.specs.Given.{boardOf}
-use Rattle.board.proofs.GivenLaws.{Said}
-use Rattle.exam.specs.Parsed.{Ready, CollapseGiven}
+use Rattle.model.specs.Accepted.{Ready}
+use Rattle.exam.specs.Parsed.{CollapseGiven}
 use Rattle.exam.specs.Operations.{CollapsePromise}
 use Rattle.exam.proofs.CollapseLaws.{collapse-short, named-counted, named-written}
 use Rattle.exam.proofs.KeyLaws.{key-drawn}
-use Rattle.exam.proofs.ReadBoard.{Bytes, number-read, ready-said, trackRead, positionRead, track-read}
+use Rattle.model.proofs.ReadingLaws.{ready-said}
+use Rattle.board.proofs.ReadBoard.{trackRead, positionRead, Said, Bytes, number-read}
 
 module _ (b : List ℕ) (room : ℕ) where
   by-refusal : Bool → CollapseAnswer
@@ -42,7 +43,7 @@ module _ (b : List ℕ) (room : ℕ) where
   collapse-read-board e = ap by-refusal (eq-eqb (refusal b) 0 e)
 
 -- number 0 tells that the list was long enough
-long-enough : (t : Track) (p : Position) {list list′ : List ℕ} {number count : ℕ} → CollapseGiven (collapseIn t p (length list)) list number count list′ → number ≡ 0 → length (outs p) ≤ length list
+long-enough : (t : Track) (p : Position) {list list′ : List ℕ} {number listed : ℕ} → CollapseGiven (collapseIn t p (length list)) list number listed list′ → number ≡ 0 → length (outs p) ≤ length list
 long-enough t p {list} {number = number} given zero = ⊎-elim short (ltb-false (length list) (length (outs p))) (decided (ltb (length list) (length (outs p))))
   where
     short : ltb (length list) (length (outs p)) ≡ true → length (outs p) ≤ length list
@@ -55,7 +56,7 @@ collapse-turned-back b list {r} e n =
     let m : r .number ≡ refusal b = number-read b e in
     let a = collapse-refused-board b (length list) (λ k. n (m ∙ k)) in
     record {
-      given = record { number-is = rw a m; count-is = rw a; list-is = rw a };
+      given = record { number-is = rw a m; listed-is = rw a; list-is = rw a };
       same = λ k. absurd (n k);
       same-count = λ k. absurd (n k);
       blocked = λ k. absurd (n k);
@@ -63,30 +64,30 @@ collapse-turned-back b list {r} e n =
       named = λ k. absurd (n k);
     }
 
-promised : (b : List ℕ) {list list′ : List ℕ} {number count : ℕ} → refusal b ≡ 0 → Ready (trackSaid b) (positionSaid b) → CollapseGiven (collapseIn (trackSaid b) (positionSaid b) (length list)) list number count list′ → CollapsePromise b list number count list′
+promised : (b : List ℕ) {list list′ : List ℕ} {number listed : ℕ} → refusal b ≡ 0 → Ready (trackSaid b) (positionSaid b) → CollapseGiven (collapseIn (trackSaid b) (positionSaid b) (length list)) list number listed list′ → CollapsePromise b list number listed list′
 unfolding keyFor
-promised b {list} {list′} {number} {count} none ready given =
+promised b {list} {list′} {number} {listed} none ready given =
     record {
-      given = subst (λ (a : CollapseAnswer). CollapseGiven a list number count list′) (sym (collapse-read-board b (length list) none)) given;
+      given = subst (λ (a : CollapseAnswer). CollapseGiven a list number listed list′) (sym (collapse-read-board b (length list) none)) given;
       same = λ zero planRoom listRoom drawn. written zero ∙ sym (ap (λ (k : KeyAnswer). k .list) (key-drawn b planRoom listRoom drawn));
       same-count = λ zero planRoom listRoom drawn. named-counted ready given (long zero) ∙ sym (ap (λ (k : KeyAnswer). length (k .list)) (key-drawn b planRoom listRoom drawn));
-      blocked = λ zero. of-named (λ (l : List ℕ). (c : ℕ) → List·Memᴰ c l ↔ Blocked (trackSaid b) (positionSaid b) c) (named-iff-blocked (trackSaid b) (positionSaid b) (ready .parsed .laid)) zero;
-      ascending = of-named Ascending (named-ascending (trackSaid b) (positionSaid b) (ready .parsed .laid));
-      named = of-named (NamedRight (trackSaid b) (positionSaid b)) (named-right (trackSaid b) (positionSaid b) (ready .parsed .laid));
+      blocked = λ zero. of-named (λ (l : List ℕ). (c : ℕ) → List·Memᴰ c l ↔ Blocked (trackSaid b) (positionSaid b) c) (named-iff-blocked (trackSaid b) (positionSaid b) (ready .bounded .laid)) zero;
+      ascending = of-named Ascending (named-ascending (trackSaid b) (positionSaid b) (ready .bounded .laid));
+      named = of-named (NamedRight (trackSaid b) (positionSaid b)) (named-right (trackSaid b) (positionSaid b) (ready .bounded .laid));
     }
   where
     long : number ≡ 0 → length (outs (positionSaid b)) ≤ length list
     long zero = long-enough (trackSaid b) (positionSaid b) given zero
 
-    written : number ≡ 0 → take count list′ ≡ named (trackSaid b) (positionSaid b)
+    written : number ≡ 0 → take listed list′ ≡ named (trackSaid b) (positionSaid b)
     written zero = named-written ready given (long zero)
 
     -- so what holds of the named carriers holds of what was written
-    of-named : (P : List ℕ → Type 0) → P (named (trackSaid b) (positionSaid b)) → number ≡ 0 → P (take count list′)
+    of-named : (P : List ℕ → Type 0) → P (named (trackSaid b) (positionSaid b)) → number ≡ 0 → P (take listed list′)
     of-named P h zero = subst P (sym (written zero)) h
 
 -- the inner collapse's answer on what was read
-pub collapse-promised : {b list list′ : List ℕ} {r : Board} {number count : ℕ} → Bytes b → Said b r → CollapseGiven (collapseIn (trackRead r) (positionRead r) (length list)) list number count list′ → CollapsePromise b list number count list′
-collapse-promised {b} {list} {list′} {r} {number} {count} small s given =
-    promised b (s .none) (ready-said b small (s .none))
-    (subst₂ (λ (t : Track) (p : Position). CollapseGiven (collapseIn t p (length list)) list number count list′) (track-read s) (s .position) given)
+pub collapse-promised : {b list list′ : List ℕ} {r : Board} {number listed : ℕ} → Bytes b → Said b r → CollapseGiven (collapseIn (trackRead r) (positionRead r) (length list)) list number listed list′ → CollapsePromise b list number listed list′
+collapse-promised {b} {list} {list′} {r} {number} {listed} small s given =
+    promised b (s .accepted) (ready-said b small (s .accepted))
+    (subst₂ (λ (t : Track) (p : Position). CollapseGiven (collapseIn t p (length list)) list number listed list′) (s .track) (s .position) given)

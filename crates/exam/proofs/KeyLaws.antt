@@ -3,7 +3,7 @@
 use Prim.Native.Nat.{ℕ, _+_, _*_, _≤_, _<_}
 use mathlib.Core.List.{List, [], _∷_}
 use mathlib.Core.Path.{_≡_, refl, sym, ap, _∙_, subst}
-use mathlib.Core.Bool.{Bool, true, false, cond}
+use mathlib.Core.Bool.{Bool, true, false, cond, not}
 use native.Mathlib.Omega.{arith}
 use lib.ListN.{length}
 use lib.Dec.{ltb}
@@ -11,7 +11,9 @@ use borrow.Author.Tests.{lt-ltb, le-ltb, eq-eqb, ne-eqb}
 use Rattle.model.specs.Track.{Track}
 use Rattle.model.specs.Position.{Position, outs}
 use Rattle.model.specs.Reading.{refusal, trackSaid, positionSaid}
-use Rattle.rules.specs.Key.{verdictOf, KeyAnswer, turnedBack, keyFor, keyIn, keyOf}
+use Rattle.model.proofs.BoolLaws.{and-both}
+use Rattle.model.proofs.ReadingLaws.{refusal-small}
+use Rattle.rules.specs.Key.{verdictOf, KeyAnswer, turnedBack, turnsBack, keyFor, keyIn, keyOf}
 use Rattle.exam.specs.Operations.{Drawn}
 
 -- the verdict by how many are blocked
@@ -29,6 +31,16 @@ pub verdict-more : (l : List ℕ) → (length l ≡ 0 → ⊥) → (length l ≡
 verdict-more [] n m = absurd (n refl)
 verdict-more (c ∷ []) n m = absurd (m refl)
 verdict-more (c ∷ d ∷ l) n m = refl
+
+-- no verdict is one of 1 to 11
+pub verdict-goes : (l : List ℕ) → turnsBack (verdictOf l) ≡ false
+verdict-goes [] = refl
+verdict-goes (c ∷ []) = refl
+verdict-goes (c ∷ d ∷ l) = refl
+
+-- and every refusal is
+pub refused-turns-back : (b : List ℕ) → (refusal b ≡ 0 → ⊥) → turnsBack (refusal b) ≡ true
+refused-turns-back b n = and-both _ _ (ap not (ne-eqb (refusal b) 0 n)) (lt-ltb (refusal b) 12 (omega (arith, refusal-small b)))
 
 -- the answer by the rooms lent
 

@@ -6,27 +6,35 @@ use mathlib.Core.Path.{_≡_, sym, ap, _∙_, subst, subst₂}
 use lib.ListN.{length, take, drop}
 use lib.Seq.{take-at}
 use Rattle.model.specs.Lists.{overwritten}
+use Rattle.model.specs.declared.Summary.{Summary}
 use Rattle.model.specs.Track.{Track}
 use Rattle.model.specs.Position.{Position}
 use Rattle.model.specs.Reading.{refusal, trackSaid, positionSaid}
-use Rattle.rules.specs.Key.{KeyAnswer, keyFor, keyIn, keyOf}
+use Rattle.rules.specs.Key.{KeyAnswer, turnsBack, keyFor, keyIn, keyOf}
 use Rattle.demands.specs.Demands.{KeyRight, NamedRight}
 use Rattle.demands.proofs.KeyMet.{key-right}
 use Rattle.demands.proofs.NamedMet.{named-right}
 use Rattle.board.specs.declared.Board.{Board}
 use Rattle.board.specs.Given.{boardOf}
-use Rattle.board.proofs.GivenLaws.{Said}
-use Rattle.exam.specs.Parsed.{Ready, KeyGiven}
+use Rattle.model.specs.Accepted.{Ready}
+use Rattle.exam.specs.Parsed.{KeyGiven, summaryOf}
 use Rattle.exam.specs.Operations.{Drawn, KeyPromise}
-use Rattle.exam.proofs.KeyLaws.{key-refused, key-read, key-drawn}
-use Rattle.exam.proofs.ReadBoard.{Bytes, number-read, ready-said, trackRead, positionRead, track-read}
+use Rattle.exam.proofs.KeyLaws.{refused-turns-back, key-refused, key-read, key-drawn}
+use Rattle.model.proofs.ReadingLaws.{ready-said}
+use Rattle.board.proofs.ReadBoard.{trackRead, positionRead, Said, Bytes, number-read}
+
+-- what is said of a board that is turned back
+pub summary-turned-back : (b : List ℕ) {r : Board} → r ≡ boardOf b → (r .number ≡ 0 → ⊥) → _≡_ {A = Summary} (record { points = 0; zones = 0; out = 0 }) (summaryOf (trackSaid b) (positionSaid b) (r .number))
+summary-turned-back b {r} e n =
+    let m : r .number ≡ refusal b = number-read b e in
+    rw (ap turnsBack m ∙ refused-turns-back b (λ k. n (m ∙ k)))
 
 pub key-turned-back : (b plan list : List ℕ) {r : Board} → r ≡ boardOf b → (r .number ≡ 0 → ⊥) → KeyPromise b plan list (r .number) 0 0 plan list
 key-turned-back b plan list {r} e n =
     let m : r .number ≡ refusal b = number-read b e in
     let a = key-refused b (length plan) (length list) (λ k. n (m ∙ k)) in
     record {
-      given = record { verdict-is = rw a m; words-are = rw a; count-is = rw a; plan-is = rw a; list-is = rw a };
+      given = record { verdict-is = rw a m; planned-is = rw a; listed-is = rw a; plan-is = rw a; list-is = rw a };
       right = λ d. absurd (n (m ∙ d .accepted));
       named = λ d. absurd (n (m ∙ d .accepted));
     }
@@ -36,32 +44,35 @@ pub read-back : (written lent : List ℕ) {n : ℕ} {l : List ℕ} → n ≡ len
 read-back written lent {n} e f = ap (take n) f ∙ take-at written (drop (length written) lent) n (sym e)
 
 -- what is right of an answer is right of what was written as the answer says
-module _ (t : Track) (p : Position) {a : KeyAnswer} {plan list plan′ list′ : List ℕ} {verdict words count : ℕ} (given : KeyGiven a plan list verdict words count plan′ list′) where
-  right-written : KeyRight t p (a .verdict) (a .plan) (a .list) → KeyRight t p verdict (take words plan′) (take count list′)
+module _ (t : Track) (p : Position) {a : KeyAnswer} {plan list plan′ list′ : List ℕ} {verdict planned listed : ℕ} (given : KeyGiven a plan list verdict planned listed plan′ list′) where
+  right-written : KeyRight t p (a .verdict) (a .plan) (a .list) → KeyRight t p verdict (take planned plan′) (take listed list′)
   right-written h =
-      subst (λ (v : ℕ). KeyRight t p v (take words plan′) (take count list′)) (sym (given .verdict-is))
-      (subst₂ (KeyRight t p (a .verdict)) (sym (read-back (a .plan) plan (given .words-are) (given .plan-is))) (sym (read-back (a .list) list (given .count-is) (given .list-is))) h)
+      subst (λ (v : ℕ). KeyRight t p v (take planned plan′) (take listed list′)) (sym (given .verdict-is))
+      (subst₂ (KeyRight t p (a .verdict)) (sym (read-back (a .plan) plan (given .planned-is) (given .plan-is))) (sym (read-back (a .list) list (given .listed-is) (given .list-is))) h)
 
-  named-written : NamedRight t p (a .list) → NamedRight t p (take count list′)
-  named-written h = subst (NamedRight t p) (sym (read-back (a .list) list (given .count-is) (given .list-is))) h
+  named-written : NamedRight t p (a .list) → NamedRight t p (take listed list′)
+  named-written h = subst (NamedRight t p) (sym (read-back (a .list) list (given .listed-is) (given .list-is))) h
 
-promised : (b plan list : List ℕ) {plan′ list′ : List ℕ} {verdict words count : ℕ} → refusal b ≡ 0 → Ready (trackSaid b) (positionSaid b) → KeyGiven (keyOf b (length plan) (length list)) plan list verdict words count plan′ list′ → KeyPromise b plan list verdict words count plan′ list′
+promised : (b plan list : List ℕ) {plan′ list′ : List ℕ} {verdict planned listed : ℕ} → refusal b ≡ 0 → Ready (trackSaid b) (positionSaid b) → KeyGiven (keyOf b (length plan) (length list)) plan list verdict planned listed plan′ list′ → KeyPromise b plan list verdict planned listed plan′ list′
 unfolding keyFor
-promised b plan list {plan′} {list′} {verdict} {words} {count} none ready given =
+promised b plan list {plan′} {list′} {verdict} {planned} {listed} none ready given =
     record {
       given = given;
-      right = λ d. right-written (trackSaid b) (positionSaid b) (drawn d) (key-right (trackSaid b) (positionSaid b) (ready .parsed .laid));
-      named = λ d. named-written (trackSaid b) (positionSaid b) (drawn d) (named-right (trackSaid b) (positionSaid b) (ready .parsed .laid));
+      right = λ d. right-written (trackSaid b) (positionSaid b) (drawn d) (key-right (trackSaid b) (positionSaid b) (ready .bounded .laid));
+      named = λ d. named-written (trackSaid b) (positionSaid b) (drawn d) (named-right (trackSaid b) (positionSaid b) (ready .bounded .laid));
     }
   where
-    drawn : Drawn b verdict → KeyGiven (keyFor (trackSaid b) (positionSaid b)) plan list verdict words count plan′ list′
+    drawn : Drawn b verdict → KeyGiven (keyFor (trackSaid b) (positionSaid b)) plan list verdict planned listed plan′ list′
     drawn d =
-        subst (λ (a : KeyAnswer). KeyGiven a plan list verdict words count plan′ list′)
+        subst (λ (a : KeyAnswer). KeyGiven a plan list verdict planned listed plan′ list′)
         (key-drawn b (length plan) (length list) (subst (Drawn b) (given .verdict-is) d)) given
 
 -- the inner key's answer on what was read
-pub key-promised : {b plan list plan′ list′ : List ℕ} {r : Board} {verdict words count : ℕ} → Bytes b → Said b r → KeyGiven (keyIn (trackRead r) (positionRead r) (length plan) (length list)) plan list verdict words count plan′ list′ → KeyPromise b plan list verdict words count plan′ list′
-key-promised {b} {plan} {list} {plan′} {list′} {r} {verdict} {words} {count} small s given =
-    promised b plan list (s .none) (ready-said b small (s .none))
-    (subst (λ (a : KeyAnswer). KeyGiven a plan list verdict words count plan′ list′) (sym (key-read b (length plan) (length list) (s .none)))
-    (subst₂ (λ (t : Track) (p : Position). KeyGiven (keyIn t p (length plan) (length list)) plan list verdict words count plan′ list′) (track-read s) (s .position) given))
+pub key-promised : {b plan list plan′ list′ : List ℕ} {r : Board} {verdict planned listed : ℕ} → Bytes b → Said b r → KeyGiven (keyIn (trackRead r) (positionRead r) (length plan) (length list)) plan list verdict planned listed plan′ list′ → KeyPromise b plan list verdict planned listed plan′ list′
+key-promised {b} {plan} {list} {plan′} {list′} {r} {verdict} {planned} {listed} small s given =
+    promised b plan list (s .accepted) (ready-said b small (s .accepted))
+    (subst (λ (a : KeyAnswer). KeyGiven a plan list verdict planned listed plan′ list′) (sym (key-read b (length plan) (length list) (s .accepted)))
+    (subst₂ (λ (t : Track) (p : Position). KeyGiven (keyIn t p (length plan) (length list)) plan list verdict planned listed plan′ list′) (s .track) (s .position) given))
+
+pub summary-promised : {b : List ℕ} {r : Board} (verdict : ℕ) {said : Summary} → Said b r → said ≡ summaryOf (trackRead r) (positionRead r) verdict → said ≡ summaryOf (trackSaid b) (positionSaid b) verdict
+summary-promised verdict {said} s e = subst₂ (λ (t : Track) (p : Position). said ≡ summaryOf t p verdict) (s .track) (s .position) e

@@ -1,5 +1,4 @@
 pub mod ReadyLaws
-pub mod ReadBoard
 pub mod KeyLaws
 pub mod KeyGivenLaws
 pub mod KeyPromised

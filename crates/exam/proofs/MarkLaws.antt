@@ -13,7 +13,8 @@ use Rattle.model.specs.Position.{Position, outs}
 use Rattle.rules.specs.Key.{named}
 use Rattle.rules.specs.Collapse.{collapseIn}
 use Rattle.rules.specs.Sheet.{sameList, markClaim, markEntries, markFor}
-use Rattle.exam.specs.Parsed.{Ready, CollapseGiven}
+use Rattle.model.specs.Accepted.{Ready}
+use Rattle.exam.specs.Parsed.{CollapseGiven}
 use Rattle.exam.proofs.CollapseLaws.{named-counted, named-written}
 
 -- by the sheet's first word
@@ -66,11 +67,11 @@ nothing [] e = refl
 nothing (a ∷ l) e = absurd (omega arith)
 
 -- by what the collapse wrote to a list that is long enough
-module _ {t : Track} {p : Position} (ready : Ready t p) {list list′ : List ℕ} {number count : ℕ} (given : CollapseGiven (collapseIn t p (length list)) list number count list′) (room : length (outs p) ≤ length list) (ws : List ℕ) where
-  pub claim-false : count ≡ 0 → 35 ≡ markClaim t p ws
+module _ {t : Track} {p : Position} (ready : Ready t p) {list list′ : List ℕ} {number listed : ℕ} (given : CollapseGiven (collapseIn t p (length list)) list number listed list′) (room : length (outs p) ≤ length list) (ws : List ℕ) where
+  pub claim-false : listed ≡ 0 → 35 ≡ markClaim t p ws
   claim-false e = claim-none t p ws (nothing (named t p) (sym (named-counted ready given room) ∙ e))
 
-  pub claim-marked : (count ≡ 0 → ⊥) → {b : Bool} → b ≡ sameList ws (take count list′) → {x : Bool} → b ≡ x → cond x 0 35 ≡ markClaim t p ws
+  pub claim-marked : (listed ≡ 0 → ⊥) → {b : Bool} → b ≡ sameList ws (take listed list′) → {x : Bool} → b ≡ x → cond x 0 35 ≡ markClaim t p ws
   claim-marked n {b} s {x} e =
       ap (λ (y : Bool). cond y 0 35) (sym e ∙ s ∙ ap (sameList ws) (named-written ready given room))
       ∙ claim-some t p ws (λ k. n (named-counted ready given room ∙ k))

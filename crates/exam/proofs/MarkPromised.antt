@@ -13,9 +13,9 @@ use Rattle.rules.specs.Sheet.{Right, markFor, markOf}
 use Rattle.marking.proofs.SheetMarked.{marked-right}
 use Rattle.board.specs.declared.Board.{Board}
 use Rattle.board.specs.Given.{boardOf}
-use Rattle.board.proofs.GivenLaws.{Said}
 use Rattle.exam.specs.Operations.{MarkPromise}
-use Rattle.exam.proofs.ReadBoard.{Bytes, number-read, ready-said, trackRead, positionRead, track-read}
+use Rattle.model.proofs.ReadingLaws.{ready-said}
+use Rattle.board.proofs.ReadBoard.{trackRead, positionRead, Said, Bytes, number-read}
 
 module _ (b sheet : List ℕ) where
   by-refusal : Bool → ℕ
@@ -38,8 +38,8 @@ module _ (b sheet : List ℕ) where
 pub mark-promised : {b sheet : List ℕ} {r : Board} {number : ℕ} → Bytes b → Said b r → number ≡ markFor (trackRead r) (positionRead r) sheet → MarkPromise b sheet number
 mark-promised {b} {sheet} {r} {number} small s e =
     let m : number ≡ markFor (trackSaid b) (positionSaid b) sheet =
-    e ∙ ap (λ (t : Track). markFor t (positionRead r) sheet) (track-read s) ∙ ap (λ (p : Position). markFor (trackSaid b) p sheet) (s .position) in
+    e ∙ ap (λ (t : Track). markFor t (positionRead r) sheet) (s .track) ∙ ap (λ (p : Position). markFor (trackSaid b) p sheet) (s .position) in
     record {
-      number-is = m ∙ sym (mark-read-board b sheet (s .none));
-      right = λ none. subst (λ (n : ℕ). (n ≡ 0) ↔ Right (trackSaid b) (positionSaid b) sheet) (sym m) (marked-right (trackSaid b) (positionSaid b) (ready-said b small none .parsed .laid) sheet);
+      number-is = m ∙ sym (mark-read-board b sheet (s .accepted));
+      right = λ none. subst (λ (n : ℕ). (n ≡ 0) ↔ Right (trackSaid b) (positionSaid b) sheet) (sym m) (marked-right (trackSaid b) (positionSaid b) (ready-said b small none .bounded .laid) sheet);
     }

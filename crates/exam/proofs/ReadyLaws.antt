@@ -12,31 +12,31 @@ use lib.Dec.{eqb}
 use Rattle.model.specs.Lists.{keep}
 use Rattle.model.specs.Track.{Track}
 use Rattle.model.specs.Position.{Position, at, carrierOf, outs}
-use Rattle.model.proofs.ListLaws.{count-length}
+use Rattle.model.proofs.ListLaws.{how-many-length}
 use Rattle.model.proofs.AscendingLaws.{length-ascending}
 use Rattle.order.proofs.Within.{Within}
-use Rattle.carriers.specs.Numbers.{Listable}
-use Rattle.exam.specs.Parsed.{Ready}
+use Rattle.carriers.specs.Listing.{Listable}
+use Rattle.model.specs.Accepted.{Ready}
 
 outs-most : (p : Position) → length (outs p) ≤ length p
 outs-most p =
     omega
-    (arith, length-ascending (keep (λ c. not (eqb c 0)) (map carrierOf p)), count-length (λ c. not (eqb c 0)) (map carrierOf p), length-map p carrierOf)
+    (arith, length-ascending (keep (λ c. not (eqb c 0)) (map carrierOf p)), how-many-length (λ c. not (eqb c 0)) (map carrierOf p), length-map p carrierOf)
 
 module _ {t : Track} {p : Position} (ready : Ready t p) where
   pub few-out : length (outs p) ≤ 96
-  few-out = omega (arith, outs-most p, ready .parsed .laid .each, ready .parsed .zones-most)
+  few-out = omega (arith, outs-most p, ready .bounded .laid .each, ready .bounded .zones-most)
 
   -- the room that row 10 asks for is a small number
   pub room-small : {out : ℕ} → out ≡ length (outs p) → out * (2 + 2 * t .zones) ≤ 18624
   room-small {out} counted =
       le-trans (mul-le-mul-right {m = out} {n = 96} (2 + 2 * t .zones) (omega (arith, few-out)))
-      (mul-le-mul-left {m = 2 + 2 * t .zones} {n = 194} 96 (omega (arith, ready .parsed .zones-most)))
+      (mul-le-mul-left {m = 2 + 2 * t .zones} {n = 194} 96 (omega (arith, ready .bounded .zones-most)))
 
   pub listable : {q : Position} {list : List ℕ} → Within q p → length (outs q) ≤ length list → Listable q list
   listable {q} within room =
       record {
-        zones-most = omega (arith, within .as-long, ready .parsed .laid .each, ready .parsed .zones-most);
-        numbers = λ z. ⊎-elim (λ e. omega (arith, ready .numbers z)) (λ e. let f : at q z ≡ 0 = e in omega arith) (within .kept z);
+        zones-most = omega (arith, within .as-long, ready .bounded .laid .each, ready .bounded .zones-most);
+        limited = λ z. ⊎-elim (λ e. omega (arith, ready .limited z)) (λ e. let f : at q z ≡ 0 = e in omega arith) (within .kept z);
         room = room;
       }

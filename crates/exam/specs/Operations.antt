@@ -20,23 +20,23 @@ pub record Drawn (b : List ℕ) (verdict : ℕ) : Type 0 where
   pub not-10 : verdict ≡ 10 → ⊥
   pub not-11 : verdict ≡ 11 → ⊥
 
-pub record KeyPromise (b plan list : List ℕ) (verdict words count : ℕ) (plan′ list′ : List ℕ) : Type 0 where
+pub record KeyPromise (b plan list : List ℕ) (verdict planned listed : ℕ) (plan′ list′ : List ℕ) : Type 0 where
   -- result and contents: on 1 to 11, tried in rising order, both lengths are 0 and nothing is written
-  pub given : KeyGiven (keyOf b (length plan) (length list)) plan list verdict words count plan′ list′
+  pub given : KeyGiven (keyOf b (length plan) (length list)) plan list verdict planned listed plan′ list′
   -- demand 2, of what is written
-  pub right : Drawn b verdict → KeyRight (trackSaid b) (positionSaid b) verdict (take words plan′) (take count list′)
+  pub right : Drawn b verdict → KeyRight (trackSaid b) (positionSaid b) verdict (take planned plan′) (take listed list′)
   -- demand 3, of the named carriers
-  pub named : Drawn b verdict → NamedRight (trackSaid b) (positionSaid b) (take count list′)
+  pub named : Drawn b verdict → NamedRight (trackSaid b) (positionSaid b) (take listed list′)
 
-pub record CollapsePromise (b list : List ℕ) (number count : ℕ) (list′ : List ℕ) : Type 0 where
-  pub given : CollapseGiven (collapseOf b (length list)) list number count list′
-  -- where it gives 0 it leaves the key's list, number for number, whenever the key meets neither 10 nor 11; and its count is that list's length
-  pub same : number ≡ 0 → (planRoom listRoom : ℕ) → Drawn b (keyOf b planRoom listRoom .verdict) → take count list′ ≡ keyOf b planRoom listRoom .list
-  pub same-count : number ≡ 0 → (planRoom listRoom : ℕ) → Drawn b (keyOf b planRoom listRoom .verdict) → count ≡ length (keyOf b planRoom listRoom .list)
+pub record CollapsePromise (b list : List ℕ) (number listed : ℕ) (list′ : List ℕ) : Type 0 where
+  pub given : CollapseGiven (collapseOf b (length list)) list number listed list′
+  -- where it gives 0 it leaves the key's list, number for number, whenever the key meets neither 10 nor 11; and the count is that list's length
+  pub same : number ≡ 0 → (planRoom listRoom : ℕ) → Drawn b (keyOf b planRoom listRoom .verdict) → take listed list′ ≡ keyOf b planRoom listRoom .list
+  pub same-count : number ≡ 0 → (planRoom listRoom : ℕ) → Drawn b (keyOf b planRoom listRoom .verdict) → listed ≡ length (keyOf b planRoom listRoom .list)
   -- that is the blocked carriers, ascending, and demand 3 holds of them
-  pub blocked : number ≡ 0 → (c : ℕ) → List·Memᴰ c (take count list′) ↔ Blocked (trackSaid b) (positionSaid b) c
-  pub ascending : number ≡ 0 → Ascending (take count list′)
-  pub named : number ≡ 0 → NamedRight (trackSaid b) (positionSaid b) (take count list′)
+  pub blocked : number ≡ 0 → (c : ℕ) → List·Memᴰ c (take listed list′) ↔ Blocked (trackSaid b) (positionSaid b) c
+  pub ascending : number ≡ 0 → Ascending (take listed list′)
+  pub named : number ≡ 0 → NamedRight (trackSaid b) (positionSaid b) (take listed list′)
 
 pub record MarkPromise (b sheet : List ℕ) (number : ℕ) : Type 0 where
   pub number-is : number ≡ markOf b sheet

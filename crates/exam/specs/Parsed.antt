@@ -1,30 +1,37 @@
--- The operations on a track and a position, once the bytes are read: what they are given, and what they promise.
-use Prim.Native.Nat.{ℕ, _<_}
+-- The key and the collapse on a track and a position: what they promise of results and contents, of what is said of the board, and of the
+-- position left.
+use Prim.Native.Nat.{ℕ}
 use mathlib.Core.List.{List}
 use mathlib.Core.Path.{_≡_}
+use mathlib.Core.Bool.{cond}
 use lib.ListN.{length}
+use Rattle.model.specs.declared.Summary.{Summary}
 use Rattle.model.specs.Lists.{overwritten}
 use Rattle.model.specs.Track.{Track}
-use Rattle.model.specs.Position.{Position, at}
-use Rattle.model.specs.Accepted.{Parsed}
+use Rattle.model.specs.Position.{Position, onlyLeft, outs}
 use Rattle.rules.specs.Collapse.{CollapseAnswer}
-use Rattle.rules.specs.Key.{KeyAnswer}
-
--- what `Parsed` says, and carriers 1 to 255
-pub record Ready (t : Track) (p : Position) : Type 0 where
-  pub parsed : Parsed t p
-  pub numbers : (z : ℕ) → at p z < 512
+use Rattle.rules.specs.Key.{KeyAnswer, turnsBack}
 
 -- a result and the list at exit are a collapse's answer
-pub record CollapseGiven (a : CollapseAnswer) (list : List ℕ) (number count : ℕ) (list′ : List ℕ) : Type 0 where
+pub record CollapseGiven (a : CollapseAnswer) (list : List ℕ) (number listed : ℕ) (list′ : List ℕ) : Type 0 where
   pub number-is : number ≡ a .number
-  pub count-is : count ≡ length (a .list)
+  pub listed-is : listed ≡ length (a .list)
   pub list-is : list′ ≡ overwritten (a .list) list
 
 -- a result and the plan and list at exit are a key's answer
-pub record KeyGiven (a : KeyAnswer) (plan list : List ℕ) (verdict words count : ℕ) (plan′ list′ : List ℕ) : Type 0 where
+pub record KeyGiven (a : KeyAnswer) (plan list : List ℕ) (verdict planned listed : ℕ) (plan′ list′ : List ℕ) : Type 0 where
   pub verdict-is : verdict ≡ a .verdict
-  pub words-are : words ≡ length (a .plan)
-  pub count-is : count ≡ length (a .list)
+  pub planned-is : planned ≡ length (a .plan)
+  pub listed-is : listed ≡ length (a .list)
   pub plan-is : plan′ ≡ overwritten (a .plan) plan
   pub list-is : list′ ≡ overwritten (a .list) list
+
+-- what is said of the board beside a key with this verdict: P, Z and C, all 0 on 1 to 11
+abbrev pub summaryOf : Track → Position → ℕ → Summary
+summaryOf t p verdict =
+    cond (turnsBack verdict) (record { points = 0; zones = 0; out = 0 })
+    (record { points = t .points; zones = t .zones; out = length (outs p) })
+
+-- the position that a key or a collapse leaves with this number: as it was on 1 to 11, else with only the listed carriers left
+abbrev pub positionLeft : ℕ → List ℕ → Position → Position
+positionLeft number list p = cond (turnsBack number) p (onlyLeft list p)

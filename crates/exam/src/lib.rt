@@ -1,33 +1,45 @@
 // The operations on a board in bytes: the key, the collapse and the marker. They take any bytes and any room whatever, and say what they
 // give in every case.
 pub mod parsed;
+mod sheet;
 
-ghost use Rattle.exam.specs.Operations.{KeyPromise, CollapsePromise, MarkPromise};
+use model::Summary;
 use parsed::CollapseResult;
 use parsed::KeyResult;
+ghost use mathlib.Core.Path.{_≡_};
+ghost use Rattle.model.specs.Reading.{trackSaid, positionSaid};
+ghost use Rattle.exam.specs.Parsed.{summaryOf};
+ghost use Rattle.exam.specs.Operations.{KeyPromise, CollapsePromise, MarkPromise};
 
-// The key of the board: its verdict, the plan of those that can go home, and the list of those blocked, ascending.
+// The key of the board: its verdict, the plan of those that can go home, and the list of those blocked, ascending. Beside it, points, zones
+// and carriers out, all 0 on 1 to 11.
 pub fn key(bytes: &[u8], plan: &mut [u16], list: &mut [u8]) -> KeyResult
-    ensures { λ r. ⌜ KeyPromise (now (bytes .entry)) (now (plan .entry)) (now (list .entry)) (r .verdict) (r .words) (r .count) (now (plan .exit)) (now (list .exit)) ⌝ }
+    ensures { λ r. ⌜ KeyPromise (now (bytes .entry)) (now (plan .entry)) (now (list .entry)) (r .verdict) (r .planned) (r .listed) (now (plan .exit)) (now (list .exit)) ⌝ }
+    ensures { λ r. ⌜ r .summary ≡ summaryOf (trackSaid (now (bytes .entry))) (positionSaid (now (bytes .entry))) (r .verdict) ⌝ }
 {
     let mut ends = [0usize; 192];
     let mut position = [0u32; 96];
-    let head = board::read_into(bytes, &mut ends, &mut position);
-    let number = head.number;
+    let read = board::read_into(bytes, &mut ends, &mut position);
+    let number = read.number;
     if number != 0 {
+        let nothing = Summary {
+            points: 0,
+            zones: 0,
+            out: 0,
+        };
         return KeyResult {
             verdict: number,
-            words: 0,
-            count: 0,
+            planned: 0,
+            listed: 0,
+            summary: nothing,
         };
     }
+    let head = read.head;
     let zones = head.zones;
-    let words = 2 * zones;
+    let ends_count = 2 * zones;
     parsed::key(
-        head.points,
-        head.home,
-        zones,
-        &ends[..words],
+        head,
+        &ends[..ends_count],
         &mut position[..zones],
         plan,
         list,
@@ -36,28 +48,22 @@ pub fn key(bytes: &[u8], plan: &mut [u16], list: &mut [u8]) -> KeyResult
 
 // Collapses the board: the carriers that it leaves are written to the list, ascending.
 pub fn collapse(bytes: &[u8], list: &mut [u8]) -> CollapseResult
-    ensures { λ r. ⌜ CollapsePromise (now (bytes .entry)) (now (list .entry)) (r .number) (r .count) (now (list .exit)) ⌝ }
+    ensures { λ r. ⌜ CollapsePromise (now (bytes .entry)) (now (list .entry)) (r .number) (r .listed) (now (list .exit)) ⌝ }
 {
     let mut ends = [0usize; 192];
     let mut position = [0u32; 96];
-    let head = board::read_into(bytes, &mut ends, &mut position);
-    let number = head.number;
+    let read = board::read_into(bytes, &mut ends, &mut position);
+    let number = read.number;
     if number != 0 {
         return CollapseResult {
             number: number,
-            count: 0,
+            listed: 0,
         };
     }
+    let head = read.head;
     let zones = head.zones;
-    let words = 2 * zones;
-    parsed::collapse(
-        head.points,
-        head.home,
-        zones,
-        &ends[..words],
-        &mut position[..zones],
-        list,
-    )
+    let ends_count = 2 * zones;
+    parsed::collapse(head, &ends[..ends_count], &mut position[..zones], list)
 }
 
 // Marks a candidate's sheet.
@@ -66,19 +72,13 @@ pub fn mark(bytes: &[u8], sheet: &[u16]) -> u32
 {
     let mut ends = [0usize; 192];
     let mut position = [0u32; 96];
-    let head = board::read_into(bytes, &mut ends, &mut position);
-    let number = head.number;
+    let read = board::read_into(bytes, &mut ends, &mut position);
+    let number = read.number;
     if number != 0 {
         return number;
     }
+    let head = read.head;
     let zones = head.zones;
-    let words = 2 * zones;
-    parsed::mark(
-        head.points,
-        head.home,
-        zones,
-        &ends[..words],
-        &mut position[..zones],
-        sheet,
-    )
+    let ends_count = 2 * zones;
+    sheet::mark(head, &ends[..ends_count], &mut position[..zones], sheet)
 }

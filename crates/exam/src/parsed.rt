@@ -1,19 +1,22 @@
-// The operations on a track and a position that have been read. The position is the caller's own copy, and what it holds at exit is free.
+// The key and the collapse of a track and a position, whether read from bytes or not. The position is the caller's own copy.
+use model::Head;
+use model::Summary;
 ghost use mathlib.Core.Path.{_≡_};
 ghost use mathlib.Core.List.{List};
-ghost use Prim.Native.Nat.{ℕ, _<_};
-ghost use lib.ListN.{length, drop};
+ghost use Prim.Native.Nat.{ℕ};
+ghost use lib.ListN.{length};
 ghost use Rattle.model.specs.Track.{trackOf};
+ghost use Rattle.model.specs.Accepted.{Ready};
 ghost use Rattle.rules.specs.Key.{verdictOf, keyIn};
 ghost use Rattle.rules.specs.Collapse.{collapseIn};
-ghost use Rattle.rules.specs.Sheet.{markClaim, markFor};
-ghost use Rattle.exam.specs.Parsed.{Ready, KeyGiven, CollapseGiven};
+ghost use Rattle.exam.specs.Parsed.{KeyGiven, CollapseGiven, summaryOf, positionLeft};
 
-// What the key gives: the verdict, the count of words written to the plan, and of numbers written to the list.
+// What the key gives: the verdict, how many words are written to the plan and how many carriers to the list; and what is said of the board.
 pub struct KeyResult {
     pub verdict: u32,
-    pub words: usize,
-    pub count: usize,
+    pub planned: usize,
+    pub listed: usize,
+    pub summary: Summary,
 }
 
 // The verdict where so many are blocked.
@@ -29,119 +32,77 @@ fn verdict(blocked: usize) -> u32
 
 // The key: all that can go home are sent, and those still out then are listed.
 pub fn key(
-    points: usize,
-    home: usize,
-    zones: usize,
+    head: Head,
     ends: &[usize],
     position: &mut [u32],
     plan: &mut [u16],
     list: &mut [u8],
 ) -> KeyResult
-    requires { ⌜ Ready (trackOf points home zones (now ends)) (now position) ⌝ }
-    ensures { λ r. ⌜ KeyGiven (keyIn (trackOf points home zones (now (ends .entry))) (now (position .entry)) (length (now (plan .entry))) (length (now (list .entry)))) (now (plan .entry)) (now (list .entry)) (r .verdict) (r .words) (r .count) (now (plan .exit)) (now (list .exit)) ⌝ }
+    requires { ⌜ Ready (trackOf head (now ends)) (now position) ⌝ }
+    ensures { λ r. ⌜ KeyGiven (keyIn (trackOf head (now (ends .entry))) (now (position .entry)) (length (now (plan .entry))) (length (now (list .entry)))) (now (plan .entry)) (now (list .entry)) (r .verdict) (r .planned) (r .listed) (now (plan .exit)) (now (list .exit)) ⌝ }
+    ensures { λ r. ⌜ r .summary ≡ summaryOf (trackOf head (now (ends .entry))) (now (position .entry)) (r .verdict) ⌝ }
+    ensures { λ r. ⌜ now (position .exit) ≡ positionLeft (r .verdict) (keyIn (trackOf head (now (ends .entry))) (now (position .entry)) (length (now (plan .entry))) (length (now (list .entry))) .list) (now (position .entry)) ⌝ }
 {
     let out = carriers::count_out(position);
-    if plan.len() < out * (2 + 2 * zones) {
+    let nothing = Summary {
+        points: 0,
+        zones: 0,
+        out: 0,
+    };
+    if plan.len() < out * (2 + 2 * head.zones) {
         return KeyResult {
             verdict: 10,
-            words: 0,
-            count: 0,
+            planned: 0,
+            listed: 0,
+            summary: nothing,
         };
     }
     if list.len() < out {
         return KeyResult {
             verdict: 11,
-            words: 0,
-            count: 0,
+            planned: 0,
+            listed: 0,
+            summary: nothing,
         };
     }
-    let words = search::send_home(points, home, zones, ends, position, plan);
+    let planned = search::send_home(head, ends, position, plan);
     let blocked = carriers::list_out(position, list);
+    let summary = Summary {
+        points: head.points,
+        zones: head.zones,
+        out: out,
+    };
     KeyResult {
         verdict: verdict(blocked),
-        words: words,
-        count: blocked,
+        planned: planned,
+        listed: blocked,
+        summary: summary,
     }
 }
 
-// What the collapse gives: its number, and the count of numbers written to the list.
+// What the collapse gives: its number, and how many carriers are written to the list.
 pub struct CollapseResult {
     pub number: u32,
-    pub count: usize,
+    pub listed: usize,
 }
 
 // The carriers that the collapse leaves.
-pub fn collapse(
-    points: usize,
-    home: usize,
-    zones: usize,
-    ends: &[usize],
-    position: &mut [u32],
-    list: &mut [u8],
-) -> CollapseResult
-    requires { ⌜ Ready (trackOf points home zones (now ends)) (now position) ⌝ }
-    ensures { λ r. ⌜ CollapseGiven (collapseIn (trackOf points home zones (now (ends .entry))) (now (position .entry)) (length (now (list .entry)))) (now (list .entry)) (r .number) (r .count) (now (list .exit)) ⌝ }
+pub fn collapse(head: Head, ends: &[usize], position: &mut [u32], list: &mut [u8]) -> CollapseResult
+    requires { ⌜ Ready (trackOf head (now ends)) (now position) ⌝ }
+    ensures { λ r. ⌜ CollapseGiven (collapseIn (trackOf head (now (ends .entry))) (now (position .entry)) (length (now (list .entry)))) (now (list .entry)) (r .number) (r .listed) (now (list .exit)) ⌝ }
+    ensures { λ r. ⌜ now (position .exit) ≡ positionLeft (r .number) (collapseIn (trackOf head (now (ends .entry))) (now (position .entry)) (length (now (list .entry))) .list) (now (position .entry)) ⌝ }
 {
     let out = carriers::count_out(position);
     if list.len() < out {
         return CollapseResult {
             number: 11,
-            count: 0,
+            listed: 0,
         };
     }
-    parts::collapse_position(points, home, zones, ends, position);
+    parts::collapse_position(head, ends, position);
     let left = carriers::list_out(position, list);
     CollapseResult {
         number: 0,
-        count: left,
+        listed: left,
     }
-}
-
-// A claim of blocked, from the sheet's second word on: right only with the true list, and that isn't empty.
-fn mark_claim(
-    points: usize,
-    home: usize,
-    zones: usize,
-    ends: &[usize],
-    position: &mut [u32],
-    sheet: &[u16],
-) -> u32
-    requires { ⌜ Ready (trackOf points home zones (now ends)) (now position) × (0 < length (now sheet)) ⌝ }
-    ensures { λ r. ⌜ r ≡ markClaim (trackOf points home zones (now (ends .entry))) (now (position .entry)) (drop 1 (now (sheet .entry))) ⌝ }
-{
-    let mut list = [0u8; 96];
-    let left = collapse(points, home, zones, ends, position, &mut list);
-    let count = left.count;
-    if count == 0 {
-        return 35;
-    }
-    if marker::same_claim(&list, count, sheet, 1) {
-        return 0;
-    }
-    35
-}
-
-// The number of a sheet.
-pub fn mark(
-    points: usize,
-    home: usize,
-    zones: usize,
-    ends: &[usize],
-    position: &mut [u32],
-    sheet: &[u16],
-) -> u32
-    requires { ⌜ Ready (trackOf points home zones (now ends)) (now position) ⌝ }
-    ensures { λ r. ⌜ r ≡ markFor (trackOf points home zones (now (ends .entry))) (now (position .entry)) (now (sheet .entry)) ⌝ }
-{
-    if sheet.len() == 0 {
-        return 30;
-    }
-    let kind = sheet[0];
-    if kind == 0 {
-        return marker::mark_entries(points, home, zones, ends, position, sheet, 1);
-    }
-    if kind == 1 {
-        return mark_claim(points, home, zones, ends, position, sheet);
-    }
-    30
 }

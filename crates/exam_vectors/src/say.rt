@@ -27,10 +27,10 @@ fn say_list(list: &[u8]) {
 fn say_key(bytes: &[u8], plan: &mut [u16], list: &mut [u8]) {
     let key = exam::key(bytes, plan, list);
     item(key.verdict as u64);
-    io::write_all(1, b" words");
-    item(key.words as u64);
-    io::write_all(1, b" count");
-    item(key.count as u64);
+    io::write_all(1, b" planned");
+    item(key.planned as u64);
+    io::write_all(1, b" listed");
+    item(key.listed as u64);
     say_plan(plan);
     say_list(list);
 }
@@ -38,8 +38,8 @@ fn say_key(bytes: &[u8], plan: &mut [u16], list: &mut [u8]) {
 fn say_collapse(bytes: &[u8], list: &mut [u8]) {
     let left = exam::collapse(bytes, list);
     item(left.number as u64);
-    io::write_all(1, b" count");
-    item(left.count as u64);
+    io::write_all(1, b" listed");
+    item(left.listed as u64);
     say_list(list);
 }
 
@@ -62,7 +62,7 @@ pub fn bytes_in(n: usize, bytes: &[u8]) -> usize
     bytes.len()
 }
 
-fn number(numbers: &[u16], i: usize) -> usize {
+fn nth(numbers: &[u16], i: usize) -> usize {
     if i < numbers.len() {
         return numbers[i] as usize;
     }
@@ -72,15 +72,15 @@ fn number(numbers: &[u16], i: usize) -> usize {
 fn run_key(bytes: &[u8], numbers: &[u16]) {
     let mut plan = [60000u16; 24];
     let mut list = [250u8; 4];
-    let words = numbers_in(number(numbers, 0), &plan);
-    let count = bytes_in(number(numbers, 1), &list);
-    say_key(bytes, &mut plan[..words], &mut list[..count]);
+    let plan_room = numbers_in(nth(numbers, 0), &plan);
+    let list_room = bytes_in(nth(numbers, 1), &list);
+    say_key(bytes, &mut plan[..plan_room], &mut list[..list_room]);
 }
 
 fn run_collapse(bytes: &[u8], numbers: &[u16]) {
     let mut list = [250u8; 4];
-    let count = bytes_in(number(numbers, 0), &list);
-    say_collapse(bytes, &mut list[..count]);
+    let list_room = bytes_in(nth(numbers, 0), &list);
+    say_collapse(bytes, &mut list[..list_room]);
 }
 
 // The operation by its last letter: `key`, `collapse` or `mark`.

@@ -12,13 +12,13 @@ use Rattle.model.specs.Lists.{Ascending}
 use Rattle.least.specs.Queue.{Queue, inQueue, offer, offerAll}
 use Rattle.least.proofs.QueueLaws.{size, wordAt, fromAt, startQueue, added, added-places, offer-cases, offerAll-cons, offerAll-none, in-place}
 use Rattle.least.proofs.ProperQueue.{Extends, extends-same, extends-twice, extends-added}
-use Rattle.least.proofs.QueueTree.{Tree, tree-start, tree-more, tree-added, Earlier, Sorted, sorted-start, sorted-added, Has, has-added, has-new}
+use Rattle.least.proofs.QueueTree.{Tree, tree-start, tree-more, tree-added, Earlier, SortedQueue, sorted-start, sorted-added, Has, has-added, has-new}
 use Rattle.least.proofs.SearchLaws.{looked}
 
 module _ (nexts : ℕ → List ℕ) (goal : ℕ → Bool) (n w : ℕ) where
   pub record Explored (i : ℕ) (q : Queue) : Type 0 where
     pub tree : Tree nexts n w i q
-    pub in-order : Sorted q
+    pub in-order : SortedQueue q
     pub closed : (j : ℕ) → j < i → (v : ℕ) → List·Memᴰ v (nexts (wordAt q j)) → Has j v q
     pub no-goal : (j : ℕ) → j < i → goal (wordAt q j) ≡ false
 
@@ -31,10 +31,10 @@ module _ (nexts : ℕ → List ℕ) (goal : ℕ → Bool) (n w : ℕ) where
   }
 
   -- place i of queue o is being looked at: its next words are offered but for vs, and q is the queue by now
-  record Looking (i : ℕ) (o : Queue) (vs : List ℕ) (q : Queue) : Type 0 where
+  record Exploring (i : ℕ) (o : Queue) (vs : List ℕ) (q : Queue) : Type 0 where
     tree : Tree nexts n w (suc i) q
     extends : Extends o q
-    in-order : Sorted q
+    in-order : SortedQueue q
     rising : Ascending vs
     left : (x : ℕ) → List·Memᴰ x vs → List·Memᴰ x (nexts (wordAt o i))
     greater : (j : ℕ) → 0 < j → j < size q → fromAt q j ≡ i → (x : ℕ) → List·Memᴰ x vs → wordAt q j < x
@@ -57,7 +57,7 @@ module _ (nexts : ℕ → List ℕ) (goal : ℕ → Bool) (n w : ℕ) where
       go (inr k) = inl k
   offered-more i v x (inr k) h = inr k
 
-  looking-there : (i v : ℕ) {o q : Queue} {vs : List ℕ} → Looking i o (v ∷ vs) q → inQueue q v ≡ true → Looking i o vs q
+  looking-there : (i v : ℕ) {o q : Queue} {vs : List ℕ} → Exploring i o (v ∷ vs) q → inQueue q v ≡ true → Exploring i o vs q
   looking-there i v l e = record {
     tree = l .tree;
     extends = l .extends;
@@ -68,7 +68,7 @@ module _ (nexts : ℕ → List ℕ) (goal : ℕ → Bool) (n w : ℕ) where
     offered = λ x m. offered-more i v x (l .offered x m) (there-has i v (l .tree) e);
   }
 
-  looking-added : (i v : ℕ) {o q : Queue} {vs : List ℕ} → i < size o → v < n → Looking i o (v ∷ vs) q → inQueue q v ≡ false → Looking i o vs (added i q v)
+  looking-added : (i v : ℕ) {o q : Queue} {vs : List ℕ} → i < size o → v < n → Exploring i o (v ∷ vs) q → inQueue q v ≡ false → Exploring i o vs (added i q v)
   looking-added i v {o} {q} {vs} b c l e = record {
     tree = tree-added nexts n w i v (l .tree) d c e (rw (l .extends .same-word i b) (l .left v (List·Memᴰ·head refl)));
     extends = extends-twice (l .extends) (extends-added i q v even);
@@ -99,11 +99,11 @@ module _ (nexts : ℕ → List ℕ) (goal : ℕ → Bool) (n w : ℕ) where
           go (inl f) = inr (f, l .greater j z h f v (List·Memᴰ·head refl))
           go (inr f) = inl f
 
-  looking-all : (i : ℕ) {o : Queue} → i < size o → (vs : List ℕ) → ((v : ℕ) → List·Memᴰ v vs → v < n) → (q : Queue) → Looking i o vs q → Looking i o [] (offerAll i q vs)
+  looking-all : (i : ℕ) {o : Queue} → i < size o → (vs : List ℕ) → ((v : ℕ) → List·Memᴰ v vs → v < n) → (q : Queue) → Exploring i o vs q → Exploring i o [] (offerAll i q vs)
   looking-all i b [] c q l = rw (offerAll-none i q) l
   looking-all i {o} b (v ∷ vs) c q l =
       rw (offerAll-cons i q v vs) (looking-all i b vs (λ x m. c x (List·Memᴰ·tail m)) (offer i q v)
-      (offer-cases (Looking i o vs) i q v (looking-there i v l) (looking-added i v b (c v (List·Memᴰ·head refl)) l)))
+      (offer-cases (Exploring i o vs) i q v (looking-there i v l) (looking-added i v b (c v (List·Memᴰ·head refl)) l)))
 
   module _ (asc : (w : ℕ) → Ascending (nexts w)) (lower : (w v : ℕ) → List·Memᴰ v (nexts w) → v < n) where
     pub explored-on : (i : ℕ) {q : Queue} → Explored i q → i < size q → goal (wordAt q i) ≡ false → Explored (suc i) (looked nexts i q)
@@ -120,7 +120,7 @@ module _ (nexts : ℕ → List ℕ) (goal : ℕ → Bool) (n w : ℕ) where
         r : Queue
         r = offerAll i q vs
 
-        l : Looking i q [] r
+        l : Exploring i q [] r
         l = looking-all i b vs (λ v m. lower (wordAt q i) v m) q (record {
           tree = tree-more nexts n w (x .tree);
           extends = extends-same q;

@@ -7,7 +7,7 @@ use mathlib.Core.List.{List, [], _∷_, List·Memᴰ, List·Memᴰ·not-nil, Lis
 use mathlib.Core.Bool.{Bool, true, false}
 use mathlib.Core.Option.{Option, none, some, Option·some-injective}
 use native.Mathlib.Omega.{arith}
-use Rattle.model.specs.Lists.{orElse, first, Ascending}
+use Rattle.model.specs.Lists.{thisElse, first, Ascending}
 use Rattle.model.proofs.BoolLaws.{both-ways}
 use Rattle.model.proofs.ListLaws.{first-none}
 
@@ -25,7 +25,7 @@ pub first-ascending : (f : ℕ → Bool) (l : List ℕ) → Ascending l → {x y
 first-ascending f [] s e m p = absurd (List·Memᴰ·not-nil m)
 first-ascending f (a ∷ l) s {x} {y} e m p = go (f a) refl e (List·Memᴰ·cases-cons m) (λ d n c. first-ascending f l (s .1) {x = x} {y = y} d n c)
   where
-    go : (t : Bool) → f a ≡ t → orElse t a (first f l) ≡ some x → (y ≡ a) ⊎ List·Memᴰ y l → (first f l ≡ some x → List·Memᴰ y l → f y ≡ true → x ≤ y) → x ≤ y
+    go : (t : Bool) → f a ≡ t → thisElse t a (first f l) ≡ some x → (y ≡ a) ⊎ List·Memᴰ y l → (first f l ≡ some x → List·Memᴰ y l → f y ≡ true → x ≤ y) → x ≤ y
     go true q h (inl r) ih = let i : a ≡ x = Option·some-injective a x h in omega arith
     go true q h (inr n) ih = let i : a ≡ x = Option·some-injective a x h in let b : a < y = s .0 y n in omega arith
     go false q h (inl r) ih = both-ways p (ap f r ∙ q)

@@ -11,7 +11,7 @@ use native.Mathlib.Omega.{arith}
 use lib.ListN.{length}
 use lib.Dec.{ltb}
 use borrow.Author.Tests.{ltb-true, ltb-false}
-use Rattle.model.specs.Lists.{below, first, Ascending}
+use Rattle.model.specs.Lists.{numbersBelow, first, Ascending}
 use Rattle.rules.specs.Search.{followed, goalIn, wordsTo, leastFrom}
 use Rattle.least.specs.Ways.{Way, ends, goes, Before, differs, later}
 use Rattle.model.proofs.AscendingLaws.{NoRepeats, below-ascending}
@@ -69,21 +69,21 @@ module _ (nexts : ℕ → List ℕ) (goal : ℕ → Bool) where
     pub fewest : (j : ℕ) → goalIn nexts goal j w ≡ true → k ≤ j
 
   -- the first number below n that will do is the least of all
-  first-fewest : (n w : ℕ) {k : ℕ} → first (λ j. goalIn nexts goal j w) (below n) ≡ some k → (k < n) × Fewest k w
+  first-fewest : (n w : ℕ) {k : ℕ} → first (λ j. goalIn nexts goal j w) (numbersBelow n) ≡ some k → (k < n) × Fewest k w
   first-fewest n w {k} e = (mem-below n (s .0), record { will-do = s .1; fewest = λ j p. go j p (ltb j n) refl })
     where
-      s : List·Memᴰ k (below n) × (goalIn nexts goal k w ≡ true)
-      s = first-some (λ j. goalIn nexts goal j w) (below n) e
+      s : List·Memᴰ k (numbersBelow n) × (goalIn nexts goal k w ≡ true)
+      s = first-some (λ j. goalIn nexts goal j w) (numbersBelow n) e
 
       go : (j : ℕ) → goalIn nexts goal j w ≡ true → (t : Bool) → ltb j n ≡ t → k ≤ j
-      go j p true q = first-ascending (λ j. goalIn nexts goal j w) (below n) (below-ascending n) e (below-mem n j (ltb-true j n q)) p
+      go j p true q = first-ascending (λ j. goalIn nexts goal j w) (numbersBelow n) (below-ascending n) e (below-mem n j (ltb-true j n q)) p
       go j p false q = let b : n ≤ j = ltb-false j n q in let c : k < n = mem-below n (s .0) in omega arith
 
   -- what the least way is made of
   least-count : (n w : ℕ) {r : List ℕ} → leastFrom nexts goal n w ≡ some r → (k : ℕ) × ((k < n) × Fewest k w) × (w ∷ wordsTo nexts goal k w ≡ r)
   unfolding leastFrom
   least-count n w {r} e =
-      let s = map-eq-some-iff (λ k. w ∷ wordsTo nexts goal k w) (first (λ j. goalIn nexts goal j w) (below n)) .0 e in
+      let s = map-eq-some-iff (λ k. w ∷ wordsTo nexts goal k w) (first (λ j. goalIn nexts goal j w) (numbersBelow n)) .0 e in
       (s .0, first-fewest n w (s .1), s .2)
 
   pub least-sound : (n w : ℕ) {r : List ℕ} → leastFrom nexts goal n w ≡ some r → (vs : List ℕ) × (r ≡ w ∷ vs) × Way nexts goal w vs × (length vs < n)
@@ -147,13 +147,13 @@ module _ (nexts : ℕ → List ℕ) (goal : ℕ → Bool) where
     unfolding leastFrom
     least-exists {w} {us} b r =
         let (k, f) = some-fewest in
-        let (j, q) = first-exists (λ i. goalIn nexts goal i w) (below n) (below-mem n k (fewest-below k w b f)) (f .will-do) in
+        let (j, q) = first-exists (λ i. goalIn nexts goal i w) (numbersBelow n) (below-mem n k (fewest-below k w b f)) (f .will-do) in
         (w ∷ wordsTo nexts goal j w, ap (Option·map (λ i. w ∷ wordsTo nexts goal i w)) q)
       where
         some-fewest : (k : ℕ) × Fewest k w
         some-fewest =
             let m : ℕ = suc (length us) in
-            let (k, e) = first-exists (λ j. goalIn nexts goal j w) (below m) (below-mem m (length us) (omega arith)) (way-goalIn r) in
+            let (k, e) = first-exists (λ j. goalIn nexts goal j w) (numbersBelow m) (below-mem m (length us) (omega arith)) (way-goalIn r) in
             (k, first-fewest m w e .1)
 
     pub least-none : {w : ℕ} {us : List ℕ} → w < n → leastFrom nexts goal n w ≡ none → Way nexts goal w us → ⊥

@@ -60,14 +60,14 @@ module _ (nexts : ℕ → List ℕ) (n w : ℕ) where
 abbrev pub Earlier : ℕ → ℕ → ℕ → ℕ → Type 0
 Earlier f x g y = (f < g) ⊎ ((f ≡ g) × (x < y))
 
-pub record Sorted (q : Queue) : Type 0 where
+pub record SortedQueue (q : Queue) : Type 0 where
   pub sorted : (j k : ℕ) → 0 < j → j < k → k < size q → Earlier (fromAt q j) (wordAt q j) (fromAt q k) (wordAt q k)
 
-pub sorted-start : (w : ℕ) → Sorted (startQueue w)
+pub sorted-start : (w : ℕ) → SortedQueue (startQueue w)
 sorted-start w = record { sorted = λ j k z h l. absurd (omega arith) }
 
 -- the new word comes from the last place looked at, and is greater than those found there before
-pub sorted-added : (i v : ℕ) {q : Queue} → length (q .froms) ≡ size q → Sorted q → ((j : ℕ) → 0 < j → j < size q → Earlier (fromAt q j) (wordAt q j) i v) → Sorted (added i q v)
+pub sorted-added : (i v : ℕ) {q : Queue} → length (q .froms) ≡ size q → SortedQueue q → ((j : ℕ) → 0 < j → j < size q → Earlier (fromAt q j) (wordAt q j) i v) → SortedQueue (added i q v)
 sorted-added i v {q} even s newest = record { sorted = λ j k z h l. added-places i q v even After old new k l j z h }
   where
     After : ℕ → ℕ → ℕ → Type 0

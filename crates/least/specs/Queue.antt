@@ -1,19 +1,19 @@
 -- A breadth-first search over any `nexts`, as a function: the queue of words found, each with the place of the word it was found from.
 -- The first word in the queue that is a goal has the least way; the program's search is this one, step by step.
 use Prim.Native.Nat.{ℕ, zero, suc}
-use mathlib.Core.List.{List, [], _∷_, _++_}
+use mathlib.Core.List.{List, [], _∷_, _++_, foldl}
 use mathlib.Core.Bool.{Bool, true, false}
 use mathlib.Core.Option.{Option, none, some}
 use lib.ListN.{length, getD}
 use lib.Dec.{ltb, eqb}
-use Rattle.model.specs.Lists.{any, foldLeft}
+use Rattle.model.specs.Lists.{anyOf}
 
 pub record Queue : Type 0 where
   pub words : List ℕ
   pub froms : List ℕ
 
 abbrev pub inQueue : Queue → ℕ → Bool
-inQueue q v = any (eqb v) (q .words)
+inQueue q v = anyOf (eqb v) (q .words)
 
 abbrev pub offerIf : Bool → ℕ → Queue → ℕ → Queue
 offerIf true i q v = q
@@ -24,7 +24,7 @@ unfoldable pub offer : ℕ → Queue → ℕ → Queue
 offer i q v = offerIf (inQueue q v) i q v
 
 unfoldable pub offerAll : ℕ → Queue → List ℕ → Queue
-offerAll i q vs = foldLeft (offer i) q vs
+offerAll i q vs = foldl (offer i) q vs
 
 -- the queue and the place in it of the first goal, or no goal
 pub data Found : Type 0 where

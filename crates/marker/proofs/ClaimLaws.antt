@@ -25,15 +25,14 @@ pub lengths-differ : (list : List ℕ) (count : ℕ) (sheet : List ℕ) (from : 
 lengths-differ list count sheet from h n =
     not-true-false (sameList (drop from sheet) (take count list)) (λ e. n (sym (length-drop from sheet) ∙ same-length (drop from sheet) (take count list) e ∙ length-take-le count list h))
 
--- what holds while the claim on the sheet is compared with the list's first `count` numbers
+-- what holds while the claim on the sheet is compared with the list's first `count` carriers
 pub record Comparing (list : List ℕ) (count : ℕ) (sheet : List ℕ) (from i : ℕ) : Type 0 where
-  pub within : i ≤ count
   pub as-long : from + count ≡ length sheet
   pub same : sameList (drop (from + i) sheet) (drop i (take count list)) ≡ sameList (drop from sheet) (take count list)
 
 -- the claim is as long as the list
 pub compare-begins : (list : List ℕ) (count : ℕ) (sheet : List ℕ) (from : ℕ) → from ≤ length sheet → length sheet - from ≡ count → Comparing list count sheet from 0
-compare-begins list count sheet from h e = record { within = omega arith; as-long = omega arith; same = ap (λ (n : ℕ). sameList (drop n sheet) (take count list)) (add-zero from) }
+compare-begins list count sheet from h e = record { as-long = omega arith; same = ap (λ (n : ℕ). sameList (drop n sheet) (take count list)) (add-zero from) }
 
 module _ {list : List ℕ} {count : ℕ} {sheet : List ℕ} {from i : ℕ} (g : Comparing list count sheet from i) (fits : count ≤ length list) where
   -- the whole by the two numbers at place i
@@ -61,7 +60,7 @@ module _ {list : List ℕ} {count : ℕ} {sheet : List ℕ} {from i : ℕ} (g : 
   numbers-differ h n = compare-next false h (ne-eqb (getD sheet (from + i) 0) (getD list i 0) n)
 
   pub compare-on : i < count → getD sheet (from + i) 0 ≡ getD list i 0 → Comparing list count sheet from (i + 1)
-  compare-on h e = record { within = omega arith; as-long = g .as-long; same = sym (compare-next true h (eq-eqb (getD sheet (from + i) 0) (getD list i 0) e)) }
+  compare-on h e = record { as-long = g .as-long; same = sym (compare-next true h (eq-eqb (getD sheet (from + i) 0) (getD list i 0) e)) }
 
   pub compare-ended : count ≤ i → sameList (drop from sheet) (take count list) ≡ true
   unfolding sameList

@@ -9,7 +9,7 @@ use lib.ListN.{length, getD, take, drop, set, length-drop, drop-of-length-le}
 use lib.Seq.{drop-cons}
 use lib.Dec.{ltb, eqb}
 use borrow.Author.Tests.{lt-ltb, le-ltb, eq-eqb, ne-eqb, not-true, not-false}
-use Rattle.model.specs.Track.{Track, trackOf, zoneOf, headingOf}
+use Rattle.model.specs.Track.{Track, zoneOf, headingOf}
 use Rattle.model.specs.Position.{Position, at, retire}
 use Rattle.model.proofs.BoolLaws.{and-left, or-left, or-right}
 use Rattle.model.proofs.PositionLaws.{retire-set}
@@ -48,15 +48,15 @@ module _ (sheet : List ℕ) (place : ℕ) where
   -- it has its count of words
   pub record WholeEntry : Type 0 where
     pub two : 2 ≤ length sheet - place
-    pub some : counted ≡ 0 → ⊥
+    pub has-words : counted ≡ 0 → ⊥
     pub fits : counted ≤ length sheet - place - 2
 
   whole-test : WholeEntry → (eqb counted 0 || ltb (length (drop (place + 2) sheet)) counted) ≡ false
-  whole-test h = let k : counted ≤ length sheet - place - 2 = h .fits in rw (ne-eqb counted 0 (h .some)) (le-ltb (length (drop (place + 2) sheet)) counted (rw (length-drop (place + 2) sheet) (omega arith)))
+  whole-test h = let k : counted ≤ length sheet - place - 2 = h .fits in rw (ne-eqb counted 0 (h .has-words)) (le-ltb (length (drop (place + 2) sheet)) counted (rw (length-drop (place + 2) sheet) (omega arith)))
 
   route-words : WholeEntry → take counted (drop (place + 2) sheet) ≡ standing ∷ others
   route-words h =
-      let n : counted ≡ 0 → ⊥ = h .some in
+      let n : counted ≡ 0 → ⊥ = h .has-words in
       let so-many : counted ≡ suc (place + 2 + counted - (place + 3)) = omega arith in
       let three : suc (place + 2) ≡ place + 3 = omega arith in
       ap₂ take so-many (drop-cons sheet (place + 2) 0 (omega arith) ∙ ap (λ (m : ℕ). standing ∷ drop m sheet) three)
@@ -110,51 +110,49 @@ route-decides t p sheet place h each s =
     ∙ ap₂ (λ (b d : Bool). numberOf false b d (endsHome t (w ∷ vs)) 0) (stands-out (standing-stands (t .zones) p c w s each)) (by-standing t p c w vs s)
 
 -- what the code finds at the entry, as it finds it
-module _ {home zones : ℕ} {ends : List ℕ} {p : Position} {sheet : List ℕ} {place : ℕ} where
+module _ {t : Track} {p : Position} {sheet : List ℕ} {place : ℕ} where
   -- an entry that fails leaves the position as it was
-  fails : {r : ℕ} → ((points : ℕ) → entryNumber (trackOf points home zones ends) p (drop place sheet) ≡ r) → (r ≡ 0 → ⊥) → EntryMarked home zones ends p sheet place r p
-  fails {r} e n = record { number = λ points. sym (e points); leaves = ap (λ (t : Bool). cond t (retire (carrier sheet place) p) p) (sym (ne-eqb r 0 n)) }
+  fails : {r : ℕ} → entryNumber t p (drop place sheet) ≡ r → (r ≡ 0 → ⊥) → EntryMarked t p sheet place r p
+  fails {r} e n = record { number = sym e; leaves = ap (λ (b : Bool). cond b (retire (carrier sheet place) p) p) (sym (ne-eqb r 0 n)) }
 
-  pub short-fails : place < length sheet → length sheet - place < 2 → EntryMarked home zones ends p sheet place 30 p
-  short-fails h s = fails (λ points. number-short sheet place (trackOf points home zones ends) p h s) (λ e. omega arith)
+  pub short-fails : place < length sheet → length sheet - place < 2 → EntryMarked t p sheet place 30 p
+  short-fails h s = fails (number-short sheet place t p h s) (λ e. omega arith)
 
-  pub empty-fails : 2 ≤ length sheet - place → counted sheet place ≡ 0 → EntryMarked home zones ends p sheet place 30 p
+  pub empty-fails : 2 ≤ length sheet - place → counted sheet place ≡ 0 → EntryMarked t p sheet place 30 p
   empty-fails h e =
       let k = counted sheet place in
-      fails (λ points. number-not-whole sheet place (trackOf points home zones ends) p h (or-left (eqb k 0) (ltb (length (drop (place + 2) sheet)) k) (eq-eqb k 0 e))) (λ e. omega arith)
+      fails (number-not-whole sheet place t p h (or-left (eqb k 0) (ltb (length (drop (place + 2) sheet)) k) (eq-eqb k 0 e))) (λ e. omega arith)
 
-  pub past-fails : 2 ≤ length sheet - place → length sheet - place - 2 < counted sheet place → EntryMarked home zones ends p sheet place 30 p
+  pub past-fails : 2 ≤ length sheet - place → length sheet - place - 2 < counted sheet place → EntryMarked t p sheet place 30 p
   past-fails h s =
       let k = counted sheet place in
       let short : length (drop (place + 2) sheet) < k = rw (length-drop (place + 2) sheet) (omega arith) in
-      fails (λ points. number-not-whole sheet place (trackOf points home zones ends) p h (or-right (eqb k 0) (ltb (length (drop (place + 2) sheet)) k) (lt-ltb (length (drop (place + 2) sheet)) k short))) (λ e. omega arith)
+      fails (number-not-whole sheet place t p h (or-right (eqb k 0) (ltb (length (drop (place + 2) sheet)) k) (lt-ltb (length (drop (place + 2) sheet)) k short))) (λ e. omega arith)
 
   module _ (h : WholeEntry sheet place) where
-    pub out-fails : {o : Bool} → o ≡ stillOut p (carrier sheet place) → o ≡ false → EntryMarked home zones ends p sheet place 31 p
+    pub out-fails : {o : Bool} → o ≡ stillOut p (carrier sheet place) → o ≡ false → EntryMarked t p sheet place 31 p
     out-fails e f =
         let r = standing sheet place ∷ others sheet place in
-        fails (λ points. let t = trackOf points home zones ends in number-whole sheet place t p h ∙ ap (λ (b : Bool). numberOf false b (byRules t p (carrier sheet place) r) (endsHome t r) 0) (sym e ∙ f)) (λ e. omega arith)
+        fails (number-whole sheet place t p h ∙ ap (λ (b : Bool). numberOf false b (byRules t p (carrier sheet place) r) (endsHome t r) 0) (sym e ∙ f)) (λ e. omega arith)
 
-    pub standing-fails : {o s : Bool} → o ≡ stillOut p (carrier sheet place) → o ≡ true → s ≡ standsAt zones p (carrier sheet place) (standing sheet place) → not s ≡ true → EntryMarked home zones ends p sheet place 32 p
+    pub standing-fails : {o s : Bool} → o ≡ stillOut p (carrier sheet place) → o ≡ true → s ≡ standsAt (t .zones) p (carrier sheet place) (standing sheet place) → not s ≡ true → EntryMarked t p sheet place 32 p
     standing-fails {o} {s} e f g n =
         let c = carrier sheet place in
         let w = standing sheet place in
         let vs = others sheet place in
-        fails (λ points. let t = trackOf points home zones ends in number-whole sheet place t p h ∙ ap₂ (λ (b d : Bool). numberOf false b d (endsHome t (w ∷ vs)) 0) (sym e ∙ f) (no-standing t p c w vs (sym e ∙ f) (sym g ∙ not-true s n))) (λ e. omega arith)
+        fails (number-whole sheet place t p h ∙ ap₂ (λ (b d : Bool). numberOf false b d (endsHome t (w ∷ vs)) 0) (sym e ∙ f) (no-standing t p c w vs (sym e ∙ f) (sym g ∙ not-true s n))) (λ e. omega arith)
 
-    pub route-fails : {s : Bool} {r : ℕ} → length p ≡ zones → s ≡ standsAt zones p (carrier sheet place) (standing sheet place) → not s ≡ false
-        → ((points : ℕ) → r ≡ routeNumber (trackOf points home zones ends) p (carrier sheet place) (standing sheet place) (others sheet place)) → (r ≡ 0 → ⊥) → EntryMarked home zones ends p sheet place r p
-    route-fails {s} each g m e n = fails (λ points. route-decides (trackOf points home zones ends) p sheet place h each (sym g ∙ not-false s m) ∙ sym (e points)) n
+    -- past the standing's test the route decides
+    module _ {s : Bool} {r : ℕ} (m : Markable t p) (g : s ≡ standsAt (t .zones) p (carrier sheet place) (standing sheet place)) (k : not s ≡ false)
+        (e : r ≡ routeNumber t p (carrier sheet place) (standing sheet place) (others sheet place)) where
+      pub route-fails : (r ≡ 0 → ⊥) → EntryMarked t p sheet place r p
+      route-fails n = fails (route-decides t p sheet place h (m .each) (sym g ∙ not-false s k) ∙ sym e) n
 
-    pub route-passes : {s : Bool} {r : ℕ} → Markable zones ends p → s ≡ standsAt zones p (carrier sheet place) (standing sheet place) → not s ≡ false
-        → ((points : ℕ) → r ≡ routeNumber (trackOf points home zones ends) p (carrier sheet place) (standing sheet place) (others sheet place)) → r ≡ 0 → EntryMarked home zones ends p sheet place 0 (set p (zoneOf (standing sheet place)) 0)
-    route-passes {s} markable g m e z =
-        let c = carrier sheet place in
-        let w = standing sheet place in
-        record {
-          number = λ points. sym z ∙ e points ∙ sym (route-decides (trackOf points home zones ends) p sheet place h (markable .each) (sym g ∙ not-false s m));
-          leaves = sym (retire-set (markable .once) (standing-stands zones p c w (sym g ∙ not-false s m) (markable .each)));
-        }
+      pub route-passes : r ≡ 0 → EntryMarked t p sheet place 0 (set p (zoneOf (standing sheet place)) 0)
+      route-passes z = record {
+        number = sym z ∙ e ∙ sym (route-decides t p sheet place h (m .each) (sym g ∙ not-false s k));
+        leaves = sym (retire-set (m .once) (standing-stands (t .zones) p (carrier sheet place) (standing sheet place) (sym g ∙ not-false s k) (m .each)));
+      }
 
 -- a standing is a word of the track
 pub stands-below : {s : Bool} (zones : ℕ) (p : Position) (c w : ℕ) → s ≡ standsAt zones p c w → not s ≡ false → w < 2 * zones

@@ -10,7 +10,7 @@ use lib.ListN.{length, getD, take, drop, length-drop, drop-of-length-le}
 use lib.Seq.{getD-drop, drop-drop}
 use lib.Dec.{ltb, eqb}
 use borrow.Author.Tests.{ltb-false, eq-eqb}
-use Rattle.model.specs.Track.{Track, trackOf}
+use Rattle.model.specs.Track.{Track}
 use Rattle.model.specs.Position.{Position, retire}
 use Rattle.model.proofs.BoolLaws.{or-false-right}
 use Rattle.model.proofs.PositionLaws.{length-without, once-retire}
@@ -79,30 +79,28 @@ passes-words t p (c ∷ k ∷ ws) h e =
     two-more = omega arith
 
 -- what holds while the plan is marked: the number of the entries from place on is the whole plan's
-pub record Marking (points home zones : ℕ) (ends : List ℕ) (first : Position) (sheet : List ℕ) (from : ℕ) (p : Position) (place : ℕ) : Type 0 where
-  pub within : place ≤ length sheet
-  pub markable : Markable zones ends p
-  pub kept : length p ≡ length first
-  pub same : markEntries (length (drop place sheet)) (trackOf points home zones ends) p (drop place sheet) ≡ markEntries (length (drop from sheet)) (trackOf points home zones ends) first (drop from sheet)
+pub record Marking (t : Track) (first : Position) (sheet : List ℕ) (from : ℕ) (p : Position) (place : ℕ) : Type 0 where
+  pub markable : Markable t p
+  pub same : markEntries (length (drop place sheet)) t p (drop place sheet) ≡ markEntries (length (drop from sheet)) t first (drop from sheet)
 
-pub begins : {points home zones : ℕ} {ends : List ℕ} {first : Position} {sheet : List ℕ} {from : ℕ} → Markable zones ends first → from ≤ length sheet → Marking points home zones ends first sheet from first from
-begins r h = record { within = h; markable = r; kept = refl; same = refl }
+pub begins : {t : Track} {first : Position} {sheet : List ℕ} {from : ℕ} → Markable t first → Marking t first sheet from first from
+begins m = record { markable = m; same = refl }
 
-module _ {points home zones : ℕ} {ends : List ℕ} {first : Position} {sheet : List ℕ} {from : ℕ} {p : Position} {place : ℕ} (g : Marking points home zones ends first sheet from p place) where
-  pub entries-end : {r : ℕ} → length sheet ≤ place → r ≡ markEnd p → r ≡ markEntries (length (drop from sheet)) (trackOf points home zones ends) first (drop from sheet)
+module _ {t : Track} {first : Position} {sheet : List ℕ} {from : ℕ} {p : Position} {place : ℕ} (g : Marking t first sheet from p place) where
+  pub entries-end : {r : ℕ} → length sheet ≤ place → r ≡ markEnd p → r ≡ markEntries (length (drop from sheet)) t first (drop from sheet)
   unfolding markEntries
-  entries-end h e = e ∙ sym (ap (λ (l : List ℕ). markEntries (length l) (trackOf points home zones ends) p l) (drop-of-length-le sheet h)) ∙ g .same
+  entries-end h e = e ∙ sym (ap (λ (l : List ℕ). markEntries (length l) t p l) (drop-of-length-le sheet h)) ∙ g .same
 
-  module _ (h : place < length sheet) {r : ℕ} {left : Position} (m : EntryMarked home zones ends p sheet place r left) where
+  module _ (h : place < length sheet) {r : ℕ} {left : Position} (m : EntryMarked t p sheet place r left) where
     some-words : 0 < length (drop place sheet)
     some-words = simp length-drop (omega arith)
 
-    pub entry-stops : (r ≡ 0 → ⊥) → r ≡ markEntries (length (drop from sheet)) (trackOf points home zones ends) first (drop from sheet)
-    entry-stops n = m .number points ∙ sym (fails-words (trackOf points home zones ends) p (drop place sheet) some-words (λ e. n (m .number points ∙ e))) ∙ g .same
+    pub entry-stops : (r ≡ 0 → ⊥) → r ≡ markEntries (length (drop from sheet)) t first (drop from sheet)
+    entry-stops n = m .number ∙ sym (fails-words t p (drop place sheet) some-words (λ e. n (m .number ∙ e))) ∙ g .same
 
     module _ (z : r ≡ 0) where
-      passed : EntryPassed (trackOf points home zones ends) p (drop place sheet)
-      passed = passes-words (trackOf points home zones ends) p (drop place sheet) some-words (sym (m .number points) ∙ z)
+      passed : EntryPassed t p (drop place sheet)
+      passed = passes-words t p (drop place sheet) some-words (sym (m .number) ∙ z)
 
       next-place : place + (2 + getD (drop place sheet) 1 0) ≡ place + 2 + getD sheet (place + 1) 0
       next-place = omega (arith, getD-drop place sheet 1 0)
@@ -112,20 +110,17 @@ module _ {points home zones : ℕ} {ends : List ℕ} {first : Position} {sheet :
 
       taken-off : left ≡ retire (getD (drop place sheet) 0 0) p
       taken-off =
-          m .leaves ∙ ap (λ (t : Bool). cond t (retire (getD sheet place 0) p) p) (eq-eqb r 0 z)
+          m .leaves ∙ ap (λ (b : Bool). cond b (retire (getD sheet place 0) p) p) (eq-eqb r 0 z)
           ∙ ap (λ (c : ℕ). retire c p) (sym (getD-drop place sheet 0 0 ∙ ap (λ (n : ℕ). getD sheet n 0) (add-zero place)))
 
-      still-markable : (c : ℕ) → left ≡ retire c p → Markable zones ends left
-      still-markable c e = subst (Markable zones ends) (sym e) (record { each = length-without (eqb c) p ∙ g .markable .each; ends-count = g .markable .ends-count; once = once-retire c p (g .markable .once) })
+      still-markable : (c : ℕ) → left ≡ retire c p → Markable t left
+      still-markable c e = subst (Markable t) (sym e) (record { each = length-without (eqb c) p ∙ g .markable .each; ends-count = g .markable .ends-count; once = once-retire c p (g .markable .once) })
 
-      pub entry-passes : Marking points home zones ends first sheet from left (place + 2 + getD sheet (place + 1) 0)
+      pub entry-passes : Marking t first sheet from left (place + 2 + getD sheet (place + 1) 0)
       entry-passes =
-          let t = trackOf points home zones ends in
           let c = getD (drop place sheet) 0 0 in
           record {
-            within = entry-fits;
             markable = still-markable c taken-off;
-            kept = ap length taken-off ∙ length-without (eqb c) p ∙ g .kept;
             same =
                 ap₂ (λ (q : Position) (l : List ℕ). markEntries (length l) t q l) taken-off (sym (drop-drop (2 + getD (drop place sheet) 1 0) place sheet ∙ ap (λ (n : ℕ). drop n sheet) next-place))
                 ∙ sym (passed .same) ∙ g .same;

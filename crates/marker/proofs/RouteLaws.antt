@@ -10,7 +10,7 @@ use lib.ListN.{length, getD, take, drop}
 use lib.Seq.{drop-cons}
 use lib.Dec.{ltb, eqb}
 use borrow.Author.Tests.{lt-ltb, le-ltb, eq-eqb, ne-eqb, not-true, not-false}
-use Rattle.model.specs.Track.{Track, trackOf, rev, leave}
+use Rattle.model.specs.Track.{Track, start, leave}
 use Rattle.model.specs.Position.{Position}
 use Rattle.rules.specs.Key.{mayFollow, steps, leavesHome}
 use Rattle.rules.specs.Sheet.{follow, endsHome}
@@ -18,7 +18,7 @@ use Rattle.marker.specs.Marked.{routeNumber}
 
 module _ (t : Track) (p : Position) (c w : ℕ) where
   -- the number of a route with one word more, by the two tests of that word
-  pub number-next : (v : ℕ) (vs : List ℕ) (a b : Bool) → ltb v (2 * t .zones) ≡ a → steps t p c w v ≡ b → routeNumber t p c w (v ∷ vs) ≡ cond (a && b) (routeNumber t p c v vs) 32
+  number-next : (v : ℕ) (vs : List ℕ) (a b : Bool) → ltb v (2 * t .zones) ≡ a → steps t p c w v ≡ b → routeNumber t p c w (v ∷ vs) ≡ cond (a && b) (routeNumber t p c v vs) 32
   unfolding routeNumber follow endsHome
   number-next v vs a b e f = rw (e, f) (go a b)
     where
@@ -27,7 +27,7 @@ module _ (t : Track) (p : Position) (c w : ℕ) where
       go true false = refl
       go false b = refl
 
-  pub number-last : (a : Bool) → leavesHome t w ≡ a → routeNumber t p c w [] ≡ cond a 0 33
+  number-last : (a : Bool) → leavesHome t w ≡ a → routeNumber t p c w [] ≡ cond a 0 33
   unfolding routeNumber follow endsHome
   number-last a e = rw e (go a)
     where
@@ -36,60 +36,52 @@ module _ (t : Track) (p : Position) (c w : ℕ) where
       go false = refl
 
 -- what holds while the words of the sheet are followed: w is the word before place i and leaves at the point, and the rest's number is the whole's
-pub record Following (home zones : ℕ) (ends : List ℕ) (p : Position) (c standing : ℕ) (sheet : List ℕ) (from end w point i : ℕ) : Type 0 where
-  pub within : i ≤ end
+pub record Following (t : Track) (p : Position) (c standing : ℕ) (sheet : List ℕ) (from end w point i : ℕ) : Type 0 where
   pub room : end ≤ length sheet
-  pub word : w < 2 * zones
-  pub leaves : point ≡ getD ends (rev w) 0
-  pub same : (points : ℕ) → routeNumber (trackOf points home zones ends) p c w (take (end - i) (drop i sheet)) ≡ routeNumber (trackOf points home zones ends) p c standing (take (end - from) (drop from sheet))
+  pub leaves : point ≡ leave t w
+  pub same : routeNumber t p c w (take (end - i) (drop i sheet)) ≡ routeNumber t p c standing (take (end - from) (drop from sheet))
 
-module _ {home zones : ℕ} {ends : List ℕ} {p : Position} {c standing : ℕ} {sheet : List ℕ} {from end w point i : ℕ} (g : Following home zones ends p c standing sheet from end w point i) where
-  -- the words after the standing
-  abbrev route : List ℕ
-  route = take (end - from) (drop from sheet)
+module _ {t : Track} {p : Position} {c standing : ℕ} {sheet : List ℕ} {from end w point i : ℕ} (g : Following t p c standing sheet from end w point i) where
+  -- the number of the whole route ..
+  abbrev whole : ℕ
+  whole = routeNumber t p c standing (take (end - from) (drop from sheet))
 
   next-word : i < end → take (end - i) (drop i sheet) ≡ getD sheet i 0 ∷ take (end - (i + 1)) (drop (i + 1) sheet)
   next-word h =
       let one : end - i ≡ suc (end - (i + 1)) = omega arith in
       ap₂ take one (drop-cons sheet i 0 (omega (arith, g .room)) ∙ ap (λ (n : ℕ). getD sheet i 0 ∷ drop n sheet) (sym (add-one i)))
 
-  -- the whole's number by the tests of the word at place i
-  follow-next : (a b : Bool) → i < end → ltb (getD sheet i 0) (2 * zones) ≡ a → steps (trackOf 0 0 0 ends) p c w (getD sheet i 0) ≡ b → (points : ℕ)
-      → routeNumber (trackOf points home zones ends) p c standing route ≡ cond (a && b) (routeNumber (trackOf points home zones ends) p c (getD sheet i 0) (take (end - (i + 1)) (drop (i + 1) sheet))) 32
-  follow-next a b h e f points =
-      let t = trackOf points home zones ends in
-      sym (g .same points) ∙ ap (routeNumber t p c w) (next-word h)
+  -- .. by the tests of the word at place i
+  follow-next : (a b : Bool) → i < end → ltb (getD sheet i 0) (2 * t .zones) ≡ a → steps t p c w (getD sheet i 0) ≡ b → whole ≡ cond (a && b) (routeNumber t p c (getD sheet i 0) (take (end - (i + 1)) (drop (i + 1) sheet))) 32
+  follow-next a b h e f =
+      sym (g .same) ∙ ap (routeNumber t p c w) (next-word h)
       ∙ number-next t p c w (getD sheet i 0) (take (end - (i + 1)) (drop (i + 1) sheet)) a b e f
 
-  follow-last : (a : Bool) → end ≤ i → eqb (leave (trackOf 0 0 0 ends) w) home ≡ a → (points : ℕ) → routeNumber (trackOf points home zones ends) p c standing route ≡ cond a 0 33
-  follow-last a h e points =
-      let t = trackOf points home zones ends in
+  follow-last : (a : Bool) → end ≤ i → leavesHome t w ≡ a → whole ≡ cond a 0 33
+  follow-last a h e =
       let none : end - i ≡ 0 = omega arith in
-      sym (g .same points) ∙ ap (λ (n : ℕ). routeNumber t p c w (take n (drop i sheet))) none ∙ number-last t p c w a e
+      sym (g .same) ∙ ap (λ (n : ℕ). routeNumber t p c w (take n (drop i sheet))) none ∙ number-last t p c w a e
 
   -- the step rule by the point where w leaves
-  may-go : (v : ℕ) {r : Bool} → r ≡ (eqb (getD ends v 0) point && mayFollow p c w v) → steps (trackOf 0 0 0 ends) p c w v ≡ r
-  may-go v {r} e = sym (e ∙ ap (λ (q : ℕ). eqb (getD ends v 0) q && mayFollow p c w v) (g .leaves))
+  may-go : (v : ℕ) {r : Bool} → r ≡ (eqb (start t v) point && mayFollow p c w v) → steps t p c w v ≡ r
+  may-go v {r} e = sym (e ∙ ap (λ (q : ℕ). eqb (start t v) q && mayFollow p c w v) (g .leaves))
 
-  pub no-word : i < end → 2 * zones ≤ getD sheet i 0 → (points : ℕ) → 32 ≡ routeNumber (trackOf points home zones ends) p c standing route
-  no-word h e points = sym (follow-next false (steps (trackOf 0 0 0 ends) p c w (getD sheet i 0)) h (le-ltb (getD sheet i 0) (2 * zones) e) refl points)
+  pub no-word : i < end → 2 * t .zones ≤ getD sheet i 0 → 32 ≡ whole
+  no-word h e = sym (follow-next false (steps t p c w (getD sheet i 0)) h (le-ltb (getD sheet i 0) (2 * t .zones) e) refl)
 
-  pub no-step : {r : Bool} → i < end → getD sheet i 0 < 2 * zones → r ≡ (eqb (getD ends (getD sheet i 0) 0) point && mayFollow p c w (getD sheet i 0)) → not r ≡ true
-      → (points : ℕ) → 32 ≡ routeNumber (trackOf points home zones ends) p c standing route
-  no-step {r} h e f n points = sym (follow-next true false h (lt-ltb (getD sheet i 0) (2 * zones) e) (may-go (getD sheet i 0) f ∙ not-true r n) points)
+  pub no-step : {r : Bool} → i < end → getD sheet i 0 < 2 * t .zones → r ≡ (eqb (start t (getD sheet i 0)) point && mayFollow p c w (getD sheet i 0)) → not r ≡ true → 32 ≡ whole
+  no-step {r} h e f n = sym (follow-next true false h (lt-ltb (getD sheet i 0) (2 * t .zones) e) (may-go (getD sheet i 0) f ∙ not-true r n))
 
-  pub step-on : {r : Bool} {q : ℕ} → i < end → getD sheet i 0 < 2 * zones → r ≡ (eqb (getD ends (getD sheet i 0) 0) point && mayFollow p c w (getD sheet i 0)) → not r ≡ false
-      → q ≡ getD ends (rev (getD sheet i 0)) 0 → Following home zones ends p c standing sheet from end (getD sheet i 0) q (i + 1)
+  pub step-on : {r : Bool} {q : ℕ} → i < end → getD sheet i 0 < 2 * t .zones → r ≡ (eqb (start t (getD sheet i 0)) point && mayFollow p c w (getD sheet i 0)) → not r ≡ false
+      → q ≡ leave t (getD sheet i 0) → Following t p c standing sheet from end (getD sheet i 0) q (i + 1)
   step-on {r} h e f n l = record {
-    within = omega arith;
     room = g .room;
-    word = e;
     leaves = l;
-    same = λ points. sym (follow-next true true h (lt-ltb (getD sheet i 0) (2 * zones) e) (may-go (getD sheet i 0) f ∙ not-false r n) points);
+    same = sym (follow-next true true h (lt-ltb (getD sheet i 0) (2 * t .zones) e) (may-go (getD sheet i 0) f ∙ not-false r n));
   }
 
-  pub not-home : end ≤ i → (point ≡ home → ⊥) → (points : ℕ) → 33 ≡ routeNumber (trackOf points home zones ends) p c standing route
-  not-home h n points = sym (follow-last false h (ne-eqb (getD ends (rev w) 0) home (λ a. n (g .leaves ∙ a))) points)
+  pub not-home : end ≤ i → (point ≡ t .home → ⊥) → 33 ≡ whole
+  not-home h n = sym (follow-last false h (ne-eqb (leave t w) (t .home) (λ a. n (g .leaves ∙ a))))
 
-  pub at-home : end ≤ i → point ≡ home → (points : ℕ) → 0 ≡ routeNumber (trackOf points home zones ends) p c standing route
-  at-home h a points = sym (follow-last true h (eq-eqb (getD ends (rev w) 0) home (sym (g .leaves) ∙ a)) points)
+  pub at-home : end ≤ i → point ≡ t .home → 0 ≡ whole
+  at-home h a = sym (follow-last true h (eq-eqb (leave t w) (t .home) (sym (g .leaves) ∙ a)))

@@ -6,16 +6,16 @@ use mathlib.Core.Path.{_≡_}
 use mathlib.Core.Bool.{Bool, cond, not, _&&_}
 use lib.ListN.{length, getD, drop}
 use lib.Dec.{ltb, eqb}
-use Rattle.model.specs.Track.{Track, trackOf, zoneOf, headingOf}
+use Rattle.model.specs.Track.{Track, zoneOf, headingOf}
 use Rattle.model.specs.Position.{Position, at, Once, retire}
 use Rattle.rules.specs.Sheet.{follow, endsHome, markEntry}
 
--- what the marker asks of the track and the position that it is lent: every `Parsed` position has it
-pub record Markable (zones : ℕ) (ends : List ℕ) (p : Position) : Type 0 where
+-- what the marker asks of the track and the position that it is lent: every `Ready` position has it
+pub record Markable (t : Track) (p : Position) : Type 0 where
   -- one number a zone
-  pub each : length p ≡ zones
+  pub each : length p ≡ t .zones
   -- two ends a zone
-  pub ends-count : length ends ≡ 2 * zones
+  pub ends-count : length (t .ends) ≡ 2 * t .zones
   -- no carrier stands in two zones
   pub once : Once p
 
@@ -31,8 +31,7 @@ routeNumber t p c w vs = cond (not (follow t p c w vs)) 32 (cond (not (endsHome 
 unfoldable pub entryNumber : Track → Position → List ℕ → ℕ
 entryNumber t p ws = markEntry t p ws (λ q rest. 0)
 
--- what marking the entry at a place of the sheet gives, with any number of points, which the rules of moving don't look at:
--- the number, and the position left, with the carrier taken off where the number is 0
-pub record EntryMarked (home zones : ℕ) (ends : List ℕ) (p : Position) (sheet : List ℕ) (place r : ℕ) (left : Position) : Type 0 where
-  pub number : (points : ℕ) → r ≡ entryNumber (trackOf points home zones ends) p (drop place sheet)
+-- what marking the entry at a place of the sheet gives: the number, and the position left, with the carrier taken off where the number is 0
+pub record EntryMarked (t : Track) (p : Position) (sheet : List ℕ) (place r : ℕ) (left : Position) : Type 0 where
+  pub number : r ≡ entryNumber t p (drop place sheet)
   pub leaves : left ≡ cond (eqb r 0) (retire (getD sheet place 0) p) p

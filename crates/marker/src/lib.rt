@@ -2,6 +2,7 @@
 mod out;
 mod route;
 
+use model::Head;
 ghost use mathlib.Core.Path.{_≡_};
 ghost use Prim.Native.Nat.{_≤_, _<_};
 ghost use lib.ListN.{length, take, drop};
@@ -10,16 +11,9 @@ ghost use Rattle.rules.specs.Sheet.{markEntries, sameList};
 ghost use Rattle.marker.specs.Marked.{Markable, EntryMarked};
 
 // The entry that starts at `place`: 30 to 33 are tried in that order. Where none is given the carrier is taken off.
-fn mark_entry(
-    home: usize,
-    zones: usize,
-    ends: &[usize],
-    position: &mut [u32],
-    sheet: &[u16],
-    place: usize,
-) -> u32
-    requires { ⌜ Markable zones (now ends) (now position) × (place < length (now sheet)) ⌝ }
-    ensures { λ r. ⌜ EntryMarked home zones (now (ends .entry)) (now (position .entry)) (now (sheet .entry)) place r (now (position .exit)) ⌝ }
+fn mark_entry(head: Head, ends: &[usize], position: &mut [u32], sheet: &[u16], place: usize) -> u32
+    requires { ⌜ Markable (trackOf head (now ends)) (now position) × (place < length (now sheet)) ⌝ }
+    ensures { λ r. ⌜ EntryMarked (trackOf head (now (ends .entry))) (now (position .entry)) (now (sheet .entry)) place r (now (position .exit)) ⌝ }
 {
     let left = sheet.len() - place;
     if left < 2 {
@@ -34,7 +28,7 @@ fn mark_entry(
     }
     let carrier = sheet[place] as u32;
     let standing = sheet[place + 2] as usize;
-    if !route::stands(zones, position, carrier, standing) {
+    if !route::stands(head.zones, position, carrier, standing) {
         if out::still_out(position, carrier) {
             return 32;
         }
@@ -42,17 +36,7 @@ fn mark_entry(
     }
     let from = place + 3;
     let end = place + 2 + count;
-    let number = route::mark_route(
-        home,
-        zones,
-        ends,
-        position,
-        carrier,
-        standing,
-        sheet,
-        from,
-        end,
-    );
+    let number = route::mark_route(head, ends, position, carrier, standing, sheet, from, end);
     if number != 0 {
         return number;
     }
@@ -60,24 +44,20 @@ fn mark_entry(
     0
 }
 
-// The plan on a sheet, from the word at `from` on. No rule of the sheet looks at `points`, which the contract needs to name the track.
-// The position is the caller's own copy: it keeps its length, and what it holds at exit is free.
+// The plan on a sheet, from the word at `from` on. The position is the caller's own copy, and what it holds at exit is free.
 pub fn mark_entries(
-    points: usize,
-    home: usize,
-    zones: usize,
+    head: Head,
     ends: &[usize],
     position: &mut [u32],
     sheet: &[u16],
     from: usize,
 ) -> u32
-    requires { ⌜ Markable zones (now ends) (now position) × (from ≤ length (now sheet)) ⌝ }
-    ensures { λ r. ⌜ r ≡ markEntries (length (drop from (now (sheet .entry)))) (trackOf points home zones (now (ends .entry))) (now (position .entry)) (drop from (now (sheet .entry))) ⌝ }
-    ensures { λ r. ⌜ length (now (position .exit)) ≡ length (now (position .entry)) ⌝ }
+    requires { ⌜ Markable (trackOf head (now ends)) (now position) × (from ≤ length (now sheet)) ⌝ }
+    ensures { λ r. ⌜ r ≡ markEntries (length (drop from (now (sheet .entry)))) (trackOf head (now (ends .entry))) (now (position .entry)) (drop from (now (sheet .entry))) ⌝ }
 {
     let mut place = from;
     while place < sheet.len() {
-        let number = mark_entry(home, zones, ends, position, sheet, place);
+        let number = mark_entry(head, ends, position, sheet, place);
         if number != 0 {
             return number;
         }
@@ -87,7 +67,7 @@ pub fn mark_entries(
     out::mark_end(position)
 }
 
-// Whether the sheet's words from `from` on are the list's first `count` numbers.
+// Whether the sheet's words from `from` on are the list's first `count` carriers.
 pub fn same_claim(list: &[u8], count: usize, sheet: &[u16], from: usize) -> bool
     requires { ⌜ (count ≤ length (now list)) × (from ≤ length (now sheet)) ⌝ }
     ensures { λ r. ⌜ r ≡ sameList (drop from (now (sheet .entry))) (take count (now (list .entry))) ⌝ }
@@ -98,8 +78,8 @@ pub fn same_claim(list: &[u8], count: usize, sheet: &[u16], from: usize) -> bool
     let mut i = 0;
     while i < count {
         let word = sheet[from + i];
-        let number = list[i] as u16;
-        if word != number {
+        let carrier = list[i] as u16;
+        if word != carrier {
             return false;
         }
         i += 1;

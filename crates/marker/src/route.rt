@@ -1,7 +1,8 @@
 // A route on a sheet: its first word against the carrier's standing, and each next word against the moving rules.
+use model::Head;
 ghost use mathlib.Core.Path.{_≡_};
 ghost use mathlib.Core.Bool.{_&&_};
-ghost use Prim.Native.Nat.{ℕ, _-_, _*_, _/_, _≤_, _<_};
+ghost use Prim.Native.Nat.{_-_, _*_, _/_, _≤_, _<_};
 ghost use lib.ListN.{length, getD, take, drop};
 ghost use lib.Dec.{eqb};
 ghost use Rattle.model.specs.Track.{trackOf};
@@ -37,14 +38,13 @@ fn may_step(
     if ends[v] != point {
         return false;
     }
-    words::may_follow(position, carrier, w, v)
+    word::may_follow(position, carrier, w, v)
 }
 
 // A route by its standing and the words after it, which are those of the sheet from `from` to before `end`: 32 where a word breaks the moving
 // rules or is 2 × Z or more, 33 where the last one doesn't leave at home, else 0.
 pub fn mark_route(
-    home: usize,
-    zones: usize,
+    head: Head,
     ends: &[usize],
     position: &[u32],
     carrier: u32,
@@ -53,25 +53,25 @@ pub fn mark_route(
     from: usize,
     end: usize,
 ) -> u32
-    requires { ⌜ Markable zones (now ends) (now position) × (standing < 2 * zones) × (from ≤ end) × (end ≤ length (now sheet)) ⌝ }
-    ensures { λ r. ⌜ ((points : ℕ) → r ≡ routeNumber (trackOf points home zones (now (ends .entry))) (now (position .entry)) carrier standing (take (end - from) (drop from (now (sheet .entry))))) ⌝ }
+    requires { ⌜ Markable (trackOf head (now ends)) (now position) × (standing < 2 * head .zones) × (from ≤ end) × (end ≤ length (now sheet)) ⌝ }
+    ensures { λ r. ⌜ r ≡ routeNumber (trackOf head (now (ends .entry))) (now (position .entry)) carrier standing (take (end - from) (drop from (now (sheet .entry)))) ⌝ }
 {
     let mut w = standing;
-    let mut point = words::leaving(ends, w);
+    let mut point = word::leaving(ends, w);
     let mut i = from;
     while i < end {
         let v = sheet[i] as usize;
-        if 2 * zones <= v {
+        if 2 * head.zones <= v {
             return 32;
         }
         if !may_step(ends, position, carrier, point, w, v) {
             return 32;
         }
         w = v;
-        point = words::leaving(ends, w);
+        point = word::leaving(ends, w);
         i += 1;
     }
-    if point != home {
+    if point != head.home {
         return 33;
     }
     0

@@ -11,7 +11,7 @@ use lib.Dec.{ltb, eqb}
 use borrow.Author.Tests.{ltb-false, le-ltb, eqb-false, ne-eqb, not-true}
 use Rattle.model.proofs.BoolLaws.{and-left, or-false-right, both-ways}
 use Rattle.model.proofs.PositionLaws.{mem-outs, outs-mem, laid-retire}
-use Rattle.model.specs.Lists.{any}
+use Rattle.model.specs.Lists.{anyOf}
 use Rattle.model.specs.Track.{Track}
 use Rattle.model.specs.Position.{Position, carrierOf, retire, outs}
 use Rattle.model.specs.Accepted.{Laid}
@@ -68,7 +68,7 @@ end-of-empty p none = go (outs p) (λ a m. none a (mem-outs p m))
 
 numbered-of-out : (p : Position) (c : ℕ) → stillOut p c ≡ true → c ≡ 0 → ⊥
 unfolding stillOut
-numbered-of-out p c h = eqb-false c 0 (not-true (eqb c 0) (and-left (not (eqb c 0)) (any (λ v. eqb (carrierOf v) c) p) h))
+numbered-of-out p c h = eqb-false c 0 (not-true (eqb c 0) (and-left (not (eqb c 0)) (anyOf (λ v. eqb (carrierOf v) c) p) h))
 
 out-of-route : (t : Track) (p : Position) (c : ℕ) {r : List ℕ} → Route t p c r → stillOut p c ≡ true
 out-of-route t p c (route s o) = stands-out s

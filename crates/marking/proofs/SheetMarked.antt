@@ -49,7 +49,7 @@ module _ (t : Track) (p : Position) (laid : Laid t p) where
           record {
             list = c ∷ cs;
             written = refl;
-            some = λ n. not-zero (length cs) (ap length n);
+            not-empty = λ n. not-zero (length cs) (ap length n);
             ascending = subst (λ (l : List ℕ). Ascending l) (sym same) (named-ascending t p laid);
             blocked = subst (λ (l : List ℕ). (d : ℕ) → List·Memᴰ d l ↔ Blocked t p d) (sym same) (named-iff-blocked t p laid);
           }
@@ -77,7 +77,7 @@ module _ (t : Track) (p : Position) (laid : Laid t p) where
   unfolding markFor
   zero-of-right sheet (inl o) =
       rw (o .written) (zero-of-order t (length (planWords (o .entries))) (le-refl _) laid (o .retires) (o .empty))
-  zero-of-right sheet (inr b) = rw (b .written) (zero-of-claim (b .list) (b .some) (list-of-blocked b))
+  zero-of-right sheet (inr b) = rw (b .written) (zero-of-claim (b .list) (b .not-empty) (list-of-blocked b))
 
   pub marked-right : (sheet : List ℕ) → (markFor t p sheet ≡ 0) ↔ Right t p sheet
   marked-right sheet = (right-of-zero sheet, zero-of-right sheet)

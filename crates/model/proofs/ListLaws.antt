@@ -3,13 +3,13 @@
 use Prim.Native.Nat.{ℕ, zero, suc, _+_, _≤_, _<_}
 use mathlib.Core.Path.{_≡_, refl, sym, _∙_, ap, ap₂, subst}
 use mathlib.Core.Logic.{_⊎_, inl, inr}
-use mathlib.Core.List.{List, [], _∷_, _++_, List·Memᴰ, List·Memᴰ·head, List·Memᴰ·tail, List·Memᴰ·not-nil, List·Memᴰ·cases-cons}
+use mathlib.Core.List.{List, [], _∷_, _++_, List·Memᴰ, List·Memᴰ·head, List·Memᴰ·tail, List·Memᴰ·not-nil, List·Memᴰ·cases-cons, foldl}
 use mathlib.Core.Bool.{Bool, true, false, true≢false, false≢true, _&&_, _||_}
 use mathlib.Core.Option.{none, some}
 use native.Mathlib.Nat.{eq-or-lt-of-le}
 use native.Mathlib.Omega.{arith}
 use lib.ListN.{length, getD, replicate, length-append}
-use Rattle.model.specs.Lists.{countUp, below, consIf, keep, any, all, orElse, first, count, foldLeft, times}
+use Rattle.model.specs.Lists.{countUp, numbersBelow, consIf, keep, anyOf, allOf, thisElse, first, howMany, nTimes}
 use Rattle.model.proofs.BoolLaws.{and-left, and-right, both-ways, not-true-false, or-left, or-right}
 
 -- numbers in a row
@@ -18,7 +18,7 @@ pub length-countUp : (k n : ℕ) → length (countUp k n) ≡ n
 length-countUp k zero = refl
 length-countUp k (suc n) = ap suc (length-countUp (suc k) n)
 
-pub length-below : (n : ℕ) → length (below n) ≡ n
+pub length-below : (n : ℕ) → length (numbersBelow n) ≡ n
 length-below n = length-countUp 0 n
 
 pub getD-countUp : (k n i d : ℕ) → i < n → getD (countUp k n) i d ≡ k + i
@@ -26,7 +26,7 @@ getD-countUp k zero i d h = absurd (omega arith)
 getD-countUp k (suc n) zero d h = omega arith
 getD-countUp k (suc n) (suc i) d h = getD-countUp (suc k) n i d (omega arith) ∙ omega arith
 
-pub getD-below : (n i d : ℕ) → i < n → getD (below n) i d ≡ i
+pub getD-below : (n i d : ℕ) → i < n → getD (numbersBelow n) i d ≡ i
 getD-below n i d h = getD-countUp 0 n i d h ∙ omega arith
 
 pub mem-countUp : (k n : ℕ) {x : ℕ} → List·Memᴰ x (countUp k n) → (k ≤ x) × (x < k + n)
@@ -45,10 +45,10 @@ countUp-mem k (suc n) x h i = go (eq-or-lt-of-le h) (countUp-mem (suc k) n x)
     go (inl e) ih = List·Memᴰ·head (sym e)
     go (inr l) ih = List·Memᴰ·tail (ih l (omega arith))
 
-pub mem-below : (n : ℕ) {x : ℕ} → List·Memᴰ x (below n) → x < n
+pub mem-below : (n : ℕ) {x : ℕ} → List·Memᴰ x (numbersBelow n) → x < n
 mem-below n {x} m = let r : (0 ≤ x) × (x < 0 + n) = mem-countUp 0 n m in omega arith
 
-pub below-mem : (n x : ℕ) → x < n → List·Memᴰ x (below n)
+pub below-mem : (n x : ℕ) → x < n → List·Memᴰ x (numbersBelow n)
 below-mem n x h = countUp-mem 0 n x (omega arith) (omega arith)
 
 pub countUp-suc : (k n : ℕ) → countUp k (suc n) ≡ countUp k n ++ ((k + n) ∷ [])
@@ -66,8 +66,8 @@ countUp-append k (suc m) n =
     let shift : suc k + m ≡ k + suc m = omega arith in
     ap (countUp k) one ∙ ap (λ (l : List ℕ). k ∷ l) (countUp-append (suc k) m n ∙ ap (λ (x : ℕ). countUp (suc k) m ++ countUp x n) shift)
 
-pub below-suc : (n : ℕ) → below (suc n) ≡ below n ++ (n ∷ [])
-below-suc n = countUp-suc 0 n ∙ ap (λ (x : ℕ). below n ++ (x ∷ [])) (omega arith)
+pub below-suc : (n : ℕ) → numbersBelow (suc n) ≡ numbersBelow n ++ (n ∷ [])
+below-suc n = countUp-suc 0 n ∙ ap (λ (x : ℕ). numbersBelow n ++ (x ∷ [])) (omega arith)
 
 module _ {A : Type 0} where
   -- keep
@@ -128,37 +128,37 @@ module _ {A : Type 0} where
 
   -- any and all
 
-  pub any-true : (f : A → Bool) (l : List A) → any f l ≡ true → (x : A) × List·Memᴰ x l × (f x ≡ true)
+  pub any-true : (f : A → Bool) (l : List A) → anyOf f l ≡ true → (x : A) × List·Memᴰ x l × (f x ≡ true)
   any-true f [] e = absurd (false≢true e)
   any-true f (a ∷ l) e = go (f a) refl e (any-true f l)
     where
-      go : (t : Bool) → f a ≡ t → (t || any f l) ≡ true → (any f l ≡ true → (x : A) × List·Memᴰ x l × (f x ≡ true)) → (x : A) × List·Memᴰ x (a ∷ l) × (f x ≡ true)
+      go : (t : Bool) → f a ≡ t → (t || anyOf f l) ≡ true → (anyOf f l ≡ true → (x : A) × List·Memᴰ x l × (f x ≡ true)) → (x : A) × List·Memᴰ x (a ∷ l) × (f x ≡ true)
       go true q h ih = (a, List·Memᴰ·head refl, q)
       go false q h ih = let r = ih h in (r .0, List·Memᴰ·tail (r .1), r .2)
 
-  pub true-any : (f : A → Bool) {l : List A} {x : A} → List·Memᴰ x l → f x ≡ true → any f l ≡ true
-  true-any f (List·Memᴰ·head {x = a} {xs = l} q) e = or-left (f a) (any f l) (ap f (sym q) ∙ e)
-  true-any f (List·Memᴰ·tail {x = a} {xs = l} m) e = or-right (f a) (any f l) (true-any f m e)
+  pub true-any : (f : A → Bool) {l : List A} {x : A} → List·Memᴰ x l → f x ≡ true → anyOf f l ≡ true
+  true-any f (List·Memᴰ·head {x = a} {xs = l} q) e = or-left (f a) (anyOf f l) (ap f (sym q) ∙ e)
+  true-any f (List·Memᴰ·tail {x = a} {xs = l} m) e = or-right (f a) (anyOf f l) (true-any f m e)
 
-  pub any-false : (f : A → Bool) {l : List A} → any f l ≡ false → {x : A} → List·Memᴰ x l → f x ≡ false
+  pub any-false : (f : A → Bool) {l : List A} → anyOf f l ≡ false → {x : A} → List·Memᴰ x l → f x ≡ false
   any-false f e {x} m = not-true-false (f x) (λ q. true≢false (sym (true-any f m q) ∙ e))
 
-  pub false-any : (f : A → Bool) (l : List A) → ((x : A) → List·Memᴰ x l → f x ≡ false) → any f l ≡ false
-  false-any f l h = not-true-false (any f l) (λ e. let r = any-true f l e in true≢false (sym (r .2) ∙ h (r .0) (r .1)))
+  pub false-any : (f : A → Bool) (l : List A) → ((x : A) → List·Memᴰ x l → f x ≡ false) → anyOf f l ≡ false
+  false-any f l h = not-true-false (anyOf f l) (λ e. let r = any-true f l e in true≢false (sym (r .2) ∙ h (r .0) (r .1)))
 
-  pub all-true : (f : A → Bool) {l : List A} → all f l ≡ true → {x : A} → List·Memᴰ x l → f x ≡ true
-  all-true f e (List·Memᴰ·head {x = a} {xs = l} q) = ap f q ∙ and-left (f a) (all f l) e
-  all-true f e (List·Memᴰ·tail {x = a} {xs = l} m) = all-true f (and-right (f a) (all f l) e) m
+  pub all-true : (f : A → Bool) {l : List A} → allOf f l ≡ true → {x : A} → List·Memᴰ x l → f x ≡ true
+  all-true f e (List·Memᴰ·head {x = a} {xs = l} q) = ap f q ∙ and-left (f a) (allOf f l) e
+  all-true f e (List·Memᴰ·tail {x = a} {xs = l} m) = all-true f (and-right (f a) (allOf f l) e) m
 
-  pub true-all : (f : A → Bool) (l : List A) → ((x : A) → List·Memᴰ x l → f x ≡ true) → all f l ≡ true
+  pub true-all : (f : A → Bool) (l : List A) → ((x : A) → List·Memᴰ x l → f x ≡ true) → allOf f l ≡ true
   true-all f [] h = refl
   true-all f (a ∷ l) h = ap₂ (λ (s t : Bool). s && t) (h a (List·Memᴰ·head refl)) (true-all f l (λ x m. h x (List·Memᴰ·tail m)))
 
-  pub all-false : (f : A → Bool) (l : List A) → all f l ≡ false → (x : A) × List·Memᴰ x l × (f x ≡ false)
+  pub all-false : (f : A → Bool) (l : List A) → allOf f l ≡ false → (x : A) × List·Memᴰ x l × (f x ≡ false)
   all-false f [] e = absurd (true≢false e)
   all-false f (a ∷ l) e = go (f a) refl e (all-false f l)
     where
-      go : (t : Bool) → f a ≡ t → (t && all f l) ≡ false → (all f l ≡ false → (x : A) × List·Memᴰ x l × (f x ≡ false)) → (x : A) × List·Memᴰ x (a ∷ l) × (f x ≡ false)
+      go : (t : Bool) → f a ≡ t → (t && allOf f l) ≡ false → (allOf f l ≡ false → (x : A) × List·Memᴰ x l × (f x ≡ false)) → (x : A) × List·Memᴰ x (a ∷ l) × (f x ≡ false)
       go true q h ih = let r = ih h in (r .0, List·Memᴰ·tail (r .1), r .2)
       go false q h ih = (a, List·Memᴰ·head refl, q)
 
@@ -168,82 +168,82 @@ module _ {A : Type 0} where
   first-some f [] {x} e = absurd (let z : _≡_ {A = ℕ} 0 1 = cc in omega arith)
   first-some f (a ∷ l) {x} e = go (f a) refl e (first-some f l {x = x})
     where
-      go : (t : Bool) → f a ≡ t → orElse t a (first f l) ≡ some x → (first f l ≡ some x → List·Memᴰ x l × (f x ≡ true)) → List·Memᴰ x (a ∷ l) × (f x ≡ true)
+      go : (t : Bool) → f a ≡ t → thisElse t a (first f l) ≡ some x → (first f l ≡ some x → List·Memᴰ x l × (f x ≡ true)) → List·Memᴰ x (a ∷ l) × (f x ≡ true)
       go true q h ih = let s : x ≡ a = cc in (List·Memᴰ·head s, ap f s ∙ q)
       go false q h ih = (List·Memᴰ·tail (ih h .0), ih h .1)
 
   pub first-none : (f : A → Bool) {l : List A} → first f l ≡ none → {x : A} → List·Memᴰ x l → f x ≡ false
   first-none f e (List·Memᴰ·head {x = a} {xs = l} q) = ap f q ∙ go (f a) e
     where
-      go : (t : Bool) → orElse t a (first f l) ≡ none → t ≡ false
+      go : (t : Bool) → thisElse t a (first f l) ≡ none → t ≡ false
       go true h = absurd (let z : _≡_ {A = ℕ} 0 1 = cc in omega arith)
       go false h = refl
   first-none f e (List·Memᴰ·tail {x = a} {xs = l} m) = first-none f (go (f a) e) m
     where
-      go : (t : Bool) → orElse t a (first f l) ≡ none → first f l ≡ none
+      go : (t : Bool) → thisElse t a (first f l) ≡ none → first f l ≡ none
       go true h = absurd (let z : _≡_ {A = ℕ} 0 1 = cc in omega arith)
       go false h = h
 
-  -- count
+  -- how many pass
 
-  pub count-append : (f : A → Bool) (l m : List A) → count f (l ++ m) ≡ count f l + count f m
-  count-append f l m = ap length (keep-append f l m) ∙ length-append (keep f l) (keep f m)
+  pub how-many-append : (f : A → Bool) (l m : List A) → howMany f (l ++ m) ≡ howMany f l + howMany f m
+  how-many-append f l m = ap length (keep-append f l m) ∙ length-append (keep f l) (keep f m)
 
-  pub count-ext : (f g : A → Bool) (l : List A) → ((x : A) → List·Memᴰ x l → f x ≡ g x) → count f l ≡ count g l
-  count-ext f g l h = ap length (keep-ext f g l h)
+  pub how-many-ext : (f g : A → Bool) (l : List A) → ((x : A) → List·Memᴰ x l → f x ≡ g x) → howMany f l ≡ howMany g l
+  how-many-ext f g l h = ap length (keep-ext f g l h)
 
-  pub count-none : (f : A → Bool) (l : List A) → ((x : A) → List·Memᴰ x l → f x ≡ false) → count f l ≡ 0
-  count-none f l h = ap length (keep-none f l h)
+  pub how-many-none : (f : A → Bool) (l : List A) → ((x : A) → List·Memᴰ x l → f x ≡ false) → howMany f l ≡ 0
+  how-many-none f l h = ap length (keep-none f l h)
 
-  pub count-all : (f : A → Bool) (l : List A) → ((x : A) → List·Memᴰ x l → f x ≡ true) → count f l ≡ length l
-  count-all f l h = ap length (keep-all f l h)
+  pub how-many-all : (f : A → Bool) (l : List A) → ((x : A) → List·Memᴰ x l → f x ≡ true) → howMany f l ≡ length l
+  how-many-all f l h = ap length (keep-all f l h)
 
-  pub count-pass : (f : A → Bool) (a : A) (l : List A) → f a ≡ true → count f (a ∷ l) ≡ suc (count f l)
-  count-pass f a l e = ap (λ (t : Bool). length (consIf t a (keep f l))) e
+  pub how-many-pass : (f : A → Bool) (a : A) (l : List A) → f a ≡ true → howMany f (a ∷ l) ≡ suc (howMany f l)
+  how-many-pass f a l e = ap (λ (t : Bool). length (consIf t a (keep f l))) e
 
-  pub count-skip : (f : A → Bool) (a : A) (l : List A) → f a ≡ false → count f (a ∷ l) ≡ count f l
-  count-skip f a l e = ap (λ (t : Bool). length (consIf t a (keep f l))) e
+  pub how-many-skip : (f : A → Bool) (a : A) (l : List A) → f a ≡ false → howMany f (a ∷ l) ≡ howMany f l
+  how-many-skip f a l e = ap (λ (t : Bool). length (consIf t a (keep f l))) e
 
   -- a test that passes no less counts no less
-  pub count-mono : (f g : A → Bool) (l : List A) → ((x : A) → List·Memᴰ x l → f x ≡ true → g x ≡ true) → count f l ≤ count g l
-  count-mono f g [] h = omega arith
-  count-mono f g (a ∷ l) h = go (f a) (g a) (h a (List·Memᴰ·head refl)) (count-mono f g l (λ x m. h x (List·Memᴰ·tail m)))
+  pub how-many-mono : (f g : A → Bool) (l : List A) → ((x : A) → List·Memᴰ x l → f x ≡ true → g x ≡ true) → howMany f l ≤ howMany g l
+  how-many-mono f g [] h = omega arith
+  how-many-mono f g (a ∷ l) h = go (f a) (g a) (h a (List·Memᴰ·head refl)) (how-many-mono f g l (λ x m. h x (List·Memᴰ·tail m)))
     where
-      go : (s t : Bool) → (s ≡ true → t ≡ true) → count f l ≤ count g l → length (consIf s a (keep f l)) ≤ length (consIf t a (keep g l))
+      go : (s t : Bool) → (s ≡ true → t ≡ true) → howMany f l ≤ howMany g l → length (consIf s a (keep f l)) ≤ length (consIf t a (keep g l))
       go true true i ih = omega arith
       go true false i ih = absurd (false≢true (i refl))
       go false true i ih = omega arith
       go false false i ih = ih
 
   -- and more, where a member passes the one alone
-  pub count-less : (f g : A → Bool) (l : List A) → ((x : A) → List·Memᴰ x l → f x ≡ true → g x ≡ true) → {k : A} → List·Memᴰ k l → f k ≡ false → g k ≡ true → count f l < count g l
-  count-less f g [] h m p q = absurd (List·Memᴰ·not-nil m)
-  count-less f g (a ∷ l) h {k} m p q =
-      go (f a) refl (g a) refl (h a (List·Memᴰ·head refl)) (count-mono f g l (λ x m. h x (List·Memᴰ·tail m))) (λ m. count-less f g l (λ x m. h x (List·Memᴰ·tail m)) m p q) (List·Memᴰ·cases-cons m)
+  pub how-many-less : (f g : A → Bool) (l : List A) → ((x : A) → List·Memᴰ x l → f x ≡ true → g x ≡ true) → {k : A} → List·Memᴰ k l → f k ≡ false → g k ≡ true → howMany f l < howMany g l
+  how-many-less f g [] h m p q = absurd (List·Memᴰ·not-nil m)
+  how-many-less f g (a ∷ l) h {k} m p q =
+      go (f a) refl (g a) refl (h a (List·Memᴰ·head refl)) (how-many-mono f g l (λ x m. h x (List·Memᴰ·tail m))) (λ m. how-many-less f g l (λ x m. h x (List·Memᴰ·tail m)) m p q) (List·Memᴰ·cases-cons m)
     where
-      go : (s : Bool) → f a ≡ s → (t : Bool) → g a ≡ t → (s ≡ true → t ≡ true) → count f l ≤ count g l → (List·Memᴰ k l → count f l < count g l) → (k ≡ a) ⊎ List·Memᴰ k l → length (consIf s a (keep f l)) < length (consIf t a (keep g l))
+      go : (s : Bool) → f a ≡ s → (t : Bool) → g a ≡ t → (s ≡ true → t ≡ true) → howMany f l ≤ howMany g l → (List·Memᴰ k l → howMany f l < howMany g l) → (k ≡ a) ⊎ List·Memᴰ k l → length (consIf s a (keep f l)) < length (consIf t a (keep g l))
       go true e true d i w ih (inl r) = both-ways (ap f r ∙ e) p
-      go true e true d i w ih (inr n) = let b : count f l < count g l = ih n in omega arith
+      go true e true d i w ih (inr n) = let b : howMany f l < howMany g l = ih n in omega arith
       go true e false d i w ih c = absurd (false≢true (i refl))
       go false e true d i w ih c = omega arith
       go false e false d i w ih (inl r) = both-ways q (ap g r ∙ d)
       go false e false d i w ih (inr n) = ih n
 
-  pub count-length : (f : A → Bool) (l : List A) → count f l ≤ length l
-  count-length f l = subst (λ (n : ℕ). count f l ≤ n) (count-all (λ _. true) l (λ _ _. refl)) (count-mono f (λ _. true) l (λ _ _ _. refl))
+  pub how-many-length : (f : A → Bool) (l : List A) → howMany f l ≤ length l
+  how-many-length f l = subst (λ (n : ℕ). howMany f l ≤ n) (how-many-all (λ _. true) l (λ _ _. refl)) (how-many-mono f (λ _. true) l (λ _ _ _. refl))
 
-  -- times
+  -- n times
 
   -- what holds at first and is kept each time holds at the end
-  pub times-keeps : (P : A → Type 0) (f : A → A) → ((a : A) → P a → P (f a)) → (n : ℕ) (a : A) → P a → P (times n f a)
-  times-keeps P f h zero a p = p
-  times-keeps P f h (suc n) a p = times-keeps P f h n (f a) (h a p)
+  pub n-times-keeps : (P : A → Type 0) (f : A → A) → ((a : A) → P a → P (f a)) → (n : ℕ) (a : A) → P a → P (nTimes n f a)
+  n-times-keeps P f h zero a p = p
+  n-times-keeps P f h (suc n) a p = n-times-keeps P f h n (f a) (h a p)
 
 module _ {A B : Type 0} where
   -- what holds at first and is kept by each member holds at the end
-  pub foldLeft-keeps : (P : B → Type 0) (f : B → A → B) (l : List A) → ((b : B) (a : A) → List·Memᴰ a l → P b → P (f b a)) → (b : B) → P b → P (foldLeft f b l)
-  foldLeft-keeps P f [] h b p = p
-  foldLeft-keeps P f (a ∷ l) h b p = foldLeft-keeps P f l (λ c x m. h c x (List·Memᴰ·tail m)) (f b a) (h b a (List·Memᴰ·head refl) p)
+  pub foldl-keeps : (P : B → Type 0) (f : B → A → B) (l : List A) → ((b : B) (a : A) → List·Memᴰ a l → P b → P (f b a)) → (b : B) → P b → P (foldl f b l)
+  foldl-keeps P f [] h b p = p
+  foldl-keeps P f (a ∷ l) h b p = foldl-keeps P f l (λ c x m. h c x (List·Memᴰ·tail m)) (f b a) (h b a (List·Memᴰ·head refl) p)
 
 -- the lowest number that passes is the first one kept; the others pass a second test
 pub keep-lowest : (f g : ℕ → Bool) (k n p : ℕ) → k ≤ p → p < k + n → f p ≡ true → g p ≡ false → ((j : ℕ) → k ≤ j → j < p → f j ≡ false) → ((j : ℕ) → k ≤ j → (j ≡ p → ⊥) → f j ≡ g j)
@@ -262,9 +262,9 @@ keep-lowest f g k (suc n) p a b t u least other =
         ap (λ (s : Bool). p ∷ consIf s k (keep g (countUp (suc k) n))) (sym (sym (other k (omega arith) (λ q. omega arith)) ∙ fails))
 
 -- a test over two lists, one after the other
-pub any-append : (f : ℕ → Bool) (l m : List ℕ) → any f (l ++ m) ≡ (any f l || any f m)
+pub any-append : (f : ℕ → Bool) (l m : List ℕ) → anyOf f (l ++ m) ≡ (anyOf f l || anyOf f m)
 any-append f [] m = refl
-any-append f (a ∷ l) m = ap (λ (t : Bool). f a || t) (any-append f l m) ∙ or-assoc (f a) (any f l) (any f m)
+any-append f (a ∷ l) m = ap (λ (t : Bool). f a || t) (any-append f l m) ∙ or-assoc (f a) (anyOf f l) (anyOf f m)
   where
     or-assoc : (r s t : Bool) → (r || (s || t)) ≡ ((r || s) || t)
     or-assoc true s t = refl
@@ -278,26 +278,26 @@ getD-zeros (suc n) (suc i) = getD-zeros n i
 
 -- tests over the numbers below n
 
-pub any-below : (f : ℕ → Bool) (n : ℕ) → any f (below n) ≡ true → (x : ℕ) × (x < n) × (f x ≡ true)
-any-below f n e = let r = any-true f (below n) e in (r .0, mem-below n (r .1), r .2)
+pub any-below : (f : ℕ → Bool) (n : ℕ) → anyOf f (numbersBelow n) ≡ true → (x : ℕ) × (x < n) × (f x ≡ true)
+any-below f n e = let r = any-true f (numbersBelow n) e in (r .0, mem-below n (r .1), r .2)
 
-pub below-any : (f : ℕ → Bool) (n x : ℕ) → x < n → f x ≡ true → any f (below n) ≡ true
+pub below-any : (f : ℕ → Bool) (n x : ℕ) → x < n → f x ≡ true → anyOf f (numbersBelow n) ≡ true
 below-any f n x h e = true-any f (below-mem n x h) e
 
-pub any-below-false : (f : ℕ → Bool) (n : ℕ) → any f (below n) ≡ false → (x : ℕ) → x < n → f x ≡ false
+pub any-below-false : (f : ℕ → Bool) (n : ℕ) → anyOf f (numbersBelow n) ≡ false → (x : ℕ) → x < n → f x ≡ false
 any-below-false f n e x h = any-false f e (below-mem n x h)
 
-pub below-any-false : (f : ℕ → Bool) (n : ℕ) → ((x : ℕ) → x < n → f x ≡ false) → any f (below n) ≡ false
-below-any-false f n h = false-any f (below n) (λ x m. h x (mem-below n m))
+pub below-any-false : (f : ℕ → Bool) (n : ℕ) → ((x : ℕ) → x < n → f x ≡ false) → anyOf f (numbersBelow n) ≡ false
+below-any-false f n h = false-any f (numbersBelow n) (λ x m. h x (mem-below n m))
 
-pub all-below : (f : ℕ → Bool) (n : ℕ) → all f (below n) ≡ true → (x : ℕ) → x < n → f x ≡ true
+pub all-below : (f : ℕ → Bool) (n : ℕ) → allOf f (numbersBelow n) ≡ true → (x : ℕ) → x < n → f x ≡ true
 all-below f n e x h = all-true f e (below-mem n x h)
 
-pub below-all : (f : ℕ → Bool) (n : ℕ) → ((x : ℕ) → x < n → f x ≡ true) → all f (below n) ≡ true
-below-all f n h = true-all f (below n) (λ x m. h x (mem-below n m))
+pub below-all : (f : ℕ → Bool) (n : ℕ) → ((x : ℕ) → x < n → f x ≡ true) → allOf f (numbersBelow n) ≡ true
+below-all f n h = true-all f (numbersBelow n) (λ x m. h x (mem-below n m))
 
-pub all-below-false : (f : ℕ → Bool) (n : ℕ) → all f (below n) ≡ false → (x : ℕ) × (x < n) × (f x ≡ false)
-all-below-false f n e = let r = all-false f (below n) e in (r .0, mem-below n (r .1), r .2)
+pub all-below-false : (f : ℕ → Bool) (n : ℕ) → allOf f (numbersBelow n) ≡ false → (x : ℕ) × (x < n) × (f x ≡ false)
+all-below-false f n e = let r = all-false f (numbersBelow n) e in (r .0, mem-below n (r .1), r .2)
 
 -- what `first` over the numbers below n says of the number that it gives
 pub record FirstBelow (f : ℕ → Bool) (n k : ℕ) : Type 0 where
@@ -315,7 +315,7 @@ first-countUp : (f : ℕ → Bool) (s n : ℕ) {k : ℕ} → first f (countUp s 
 first-countUp f s zero {k} e = absurd (let z : _≡_ {A = ℕ} 0 1 = cc in omega arith)
 first-countUp f s (suc n) {k} e = go (f s) refl e (first-countUp f (suc s) n {k = k})
   where
-    go : (t : Bool) → f s ≡ t → orElse t s (first f (countUp (suc s) n)) ≡ some k → (first f (countUp (suc s) n) ≡ some k → FirstUp f (suc s) n k) → FirstUp f s (suc n) k
+    go : (t : Bool) → f s ≡ t → thisElse t s (first f (countUp (suc s) n)) ≡ some k → (first f (countUp (suc s) n) ≡ some k → FirstUp f (suc s) n k) → FirstUp f s (suc n) k
     go true q h ih =
         let r : k ≡ s = cc in
         record { large = omega arith; small = omega arith; passes = ap f r ∙ q; none-lower = λ j a b. absurd (omega arith) }
@@ -331,19 +331,19 @@ countUp-first : (f : ℕ → Bool) (s n k : ℕ) → FirstUp f s n k → first f
 countUp-first f s zero k r = absurd (omega arith)
 countUp-first f s (suc n) k r = go (f s) refl (eq-or-lt-of-le (r .large)) (countUp-first f (suc s) n k)
   where
-    go : (t : Bool) → f s ≡ t → (s ≡ k) ⊎ (s < k) → (FirstUp f (suc s) n k → first f (countUp (suc s) n) ≡ some k) → orElse t s (first f (countUp (suc s) n)) ≡ some k
+    go : (t : Bool) → f s ≡ t → (s ≡ k) ⊎ (s < k) → (FirstUp f (suc s) n k → first f (countUp (suc s) n) ≡ some k) → thisElse t s (first f (countUp (suc s) n)) ≡ some k
     go true q (inl d) ih = ap some d
     go true q (inr d) ih = both-ways q (r .none-lower s (omega arith) d)
     go false q (inl d) ih = both-ways (r .passes) (ap f (sym d) ∙ q)
     go false q (inr d) ih = ih (record { large = d; small = omega arith; passes = r .passes; none-lower = λ j a b. r .none-lower j (omega arith) b })
 
-pub first-below : (f : ℕ → Bool) (n : ℕ) {k : ℕ} → first f (below n) ≡ some k → FirstBelow f n k
+pub first-below : (f : ℕ → Bool) (n : ℕ) {k : ℕ} → first f (numbersBelow n) ≡ some k → FirstBelow f n k
 first-below f n {k} e =
     let r : FirstUp f 0 n k = first-countUp f 0 n e in
     record { small = omega arith; passes = r .passes; none-lower = λ j h. r .none-lower j (omega arith) h }
 
-pub below-first : (f : ℕ → Bool) (n k : ℕ) → k < n → f k ≡ true → ((j : ℕ) → j < k → f j ≡ false) → first f (below n) ≡ some k
+pub below-first : (f : ℕ → Bool) (n k : ℕ) → k < n → f k ≡ true → ((j : ℕ) → j < k → f j ≡ false) → first f (numbersBelow n) ≡ some k
 below-first f n k h e l = countUp-first f 0 n k (record { large = omega arith; small = omega arith; passes = e; none-lower = λ j _ b. l j b })
 
-pub first-below-none : (f : ℕ → Bool) (n : ℕ) → first f (below n) ≡ none → (x : ℕ) → x < n → f x ≡ false
+pub first-below-none : (f : ℕ → Bool) (n : ℕ) → first f (numbersBelow n) ≡ none → (x : ℕ) → x < n → f x ≡ false
 first-below-none f n e x h = first-none f e (below-mem n x h)

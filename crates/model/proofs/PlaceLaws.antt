@@ -10,7 +10,7 @@ use native.Mathlib.Numerals.{add-one}
 use lib.ListN.{length, getD}
 use lib.Dec.{eqb}
 use borrow.Author.Tests.{eqb-true, eqb-false, ne-eqb}
-use Rattle.model.specs.Lists.{below, consIf, keep}
+use Rattle.model.specs.Lists.{numbersBelow, consIf, keep}
 use Rattle.model.proofs.ListLaws.{getD-below, keep-all, length-below}
 use Rattle.model.proofs.AscendingLaws.{NoRepeats}
 
@@ -36,8 +36,8 @@ module _ {A : Type 0} where
   getD-map f (a ∷ l) d e zero h = refl
   getD-map f (a ∷ l) d e (suc i) h = getD-map f l d e i (omega arith)
 
-pub getD-map-below : {B : Type 0} (f : ℕ → B) (n i : ℕ) (e : B) → i < n → getD (map f (below n)) i e ≡ f i
-getD-map-below f n i e h = getD-map f (below n) 0 e i (rw length-below h) ∙ ap f (getD-below n i 0 h)
+pub getD-map-below : {B : Type 0} (f : ℕ → B) (n i : ℕ) (e : B) → i < n → getD (map f (numbersBelow n)) i e ≡ f i
+getD-map-below f n i e h = getD-map f (numbersBelow n) 0 e i (rw length-below h) ∙ ap f (getD-below n i 0 h)
 
 -- where no number stands twice, taking one off leaves one fewer
 pub keep-one-fewer : (c : ℕ) (l : List ℕ) → NoRepeats l → List·Memᴰ c l → length (keep (λ x. not (eqb c x)) l) + 1 ≡ length l

@@ -11,7 +11,7 @@ use lib.ListN.{length, getD, set, length-map, length-set, List·getD-map}
 use lib.Seq.{ext-getD, getD-set-same, getD-set-other}
 use lib.Dec.{eqb}
 use borrow.Author.Tests.{eqb-true, eqb-false, eq-eqb, ne-eqb, not-true}
-use Rattle.model.specs.Lists.{consIf, keep, any, Ascending}
+use Rattle.model.specs.Lists.{consIf, keep, anyOf, Ascending}
 use Rattle.model.specs.Track.{Track, zoneOf, headingOf}
 use Rattle.model.specs.Position.{Position, at, carrierOf, isFree, Stands, Out, Once, without, retire, outs}
 use Rattle.model.specs.Accepted.{Laid}
@@ -159,10 +159,10 @@ outs-mem p {c} o =
     ascending-mem (keep-mem (λ c. not (eqb c 0)) (Memᴰ·cast (sym (stands-carrier s)) (Memᴰ·map carrierOf (getD-mem 0 p (zoneOf w) (s .inside)))) (ap not (ne-eqb c 0 (s .numbered))))
 
 -- no two zones of a list hold one carrier
-abbrev Apart : Position → Type 0
-Apart p = (i j : ℕ) → i < length p → j < length p → (carrierOf (at p i) ≡ 0 → ⊥) → carrierOf (at p i) ≡ carrierOf (at p j) → i ≡ j
+abbrev ZonesApart : Position → Type 0
+ZonesApart p = (i j : ℕ) → i < length p → j < length p → (carrierOf (at p i) ≡ 0 → ⊥) → carrierOf (at p i) ≡ carrierOf (at p j) → i ≡ j
 
-once-apart : (p : Position) → Once p → Apart p
+once-apart : (p : Position) → Once p → ZonesApart p
 once-apart p o i j h k n e = omega (arith, same, heading-small (at p i), heading-small (at p j))
   where
     other : Stands p (carrierOf (at p i)) (2 * j + headingOf (at p j))
@@ -188,7 +188,7 @@ retire-set {p} {c} {w} once s =
         let other : c ≡ carrierOf (at p z) → ⊥ = λ q. n (sym (once-apart p once (zoneOf w) z (s .inside) h (λ k. s .numbered (sym here ∙ k)) (here ∙ q))) in
         at-without-kept (eqb c) p z (ne-eqb c (carrierOf (at p z)) other) ∙ sym (getD-set-other p (zoneOf w) z 0 0 n)
 
-apart-no-repeats : (p : Position) → Apart p → NoRepeats (keep (λ c. not (eqb c 0)) (map carrierOf p))
+apart-no-repeats : (p : Position) → ZonesApart p → NoRepeats (keep (λ c. not (eqb c 0)) (map carrierOf p))
 apart-no-repeats [] a = tt
 apart-no-repeats (v ∷ p) a = go (eqb (carrierOf v) 0) refl (apart-no-repeats p (λ i j h k n e. suc-inj (a (suc i) (suc j) (omega arith) (omega arith) n e)))
   where
@@ -232,8 +232,8 @@ outs-retire-length c p o u = ap (λ (k : List ℕ). length k + 1) (outs-retire c
 
 -- a carrier is out or not
 pub out-decided : (p : Position) (c : ℕ) → Out p c ⊎ (Out p c → ⊥)
-out-decided p c = go (decided (any (eqb c) (outs p)))
+out-decided p c = go (decided (anyOf (eqb c) (outs p)))
   where
-    go : (any (eqb c) (outs p) ≡ true) ⊎ (any (eqb c) (outs p) ≡ false) → Out p c ⊎ (Out p c → ⊥)
+    go : (anyOf (eqb c) (outs p) ≡ true) ⊎ (anyOf (eqb c) (outs p) ≡ false) → Out p c ⊎ (Out p c → ⊥)
     go (inl e) = let r = any-true (eqb c) (outs p) e in inl (mem-outs p (Memᴰ·cast (eqb-true c (r .0) (r .2)) (r .1)))
     go (inr e) = inr (λ u. eqb-false c c (any-false (eqb c) e (outs-mem p u)) refl)

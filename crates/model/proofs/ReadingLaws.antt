@@ -9,12 +9,12 @@ use native.Mathlib.Omega.{arith}
 use lib.ListN.{length, getD, length-map, List·getD-eq-default}
 use lib.Dec.{leb, ltb, eqb}
 use borrow.Author.Tests.{ltb-true, ltb-false, leb-true, eqb-true, eqb-false, eq-eqb, ne-eqb, not-true, not-false}
-use Rattle.model.specs.Lists.{below, any, all, count}
+use Rattle.model.specs.Lists.{numbersBelow, anyOf, allOf, howMany}
 use Rattle.model.specs.Track.{zoneOf, headingOf, rev, start}
 use Rattle.model.specs.Position.{at, Stands, Once}
 use Rattle.model.specs.Labels.{label, parts}
 use Rattle.model.specs.Reading.{byte, endSaid, pointsSaid, homeSaid, zonesSaid, endA, endB, carrierIn, headingIn, trackSaid, positionSaid, tooShort, wrongLength, wrongVersion, outOfRange, wrongCount, badZone, repeated, underTwo, apart, refusal}
-use Rattle.model.specs.Accepted.{Laid, Accepted, HangsTogether}
+use Rattle.model.specs.Accepted.{HangsTogether, AcceptedTrack, Laid, heldLimit, Limited, Ready}
 use Rattle.model.proofs.BoolLaws.{both-ways, decided, and-left, and-right, and-both, or-false-left, or-false-right}
 use Rattle.model.proofs.ListLaws.{length-below, any-below-false, below-any, all-below, all-below-false}
 use Rattle.model.proofs.PlaceLaws.{getD-map-below}
@@ -29,9 +29,9 @@ pub record NoRow (b : List ℕ) : Type 0 where
   pub version : wrongVersion b ≡ false
   pub range : outOfRange b ≡ false
   pub zone-count : wrongCount b ≡ false
-  pub zones : any (badZone b) (below (zonesSaid b)) ≡ false
-  pub repeats : any (repeated b) (below (zonesSaid b)) ≡ false
-  pub two-each : any (underTwo b) (below (pointsSaid b)) ≡ false
+  pub zones : anyOf (badZone b) (numbersBelow (zonesSaid b)) ≡ false
+  pub repeats : anyOf (repeated b) (numbersBelow (zonesSaid b)) ≡ false
+  pub two-each : anyOf (underTwo b) (numbersBelow (pointsSaid b)) ≡ false
 
 cond-past : (t : Bool) (r x k : ℕ) → (r ≡ k → ⊥) → cond t r x ≡ k → (t ≡ false) × (x ≡ k)
 cond-past true r x k n e = absurd (n e)
@@ -50,13 +50,13 @@ module _ (b : List ℕ) where
   row9 = cond (apart b) 9 0
 
   row8 : ℕ
-  row8 = cond (any (underTwo b) (below (pointsSaid b))) 8 row9
+  row8 = cond (anyOf (underTwo b) (numbersBelow (pointsSaid b))) 8 row9
 
   row7 : ℕ
-  row7 = cond (any (repeated b) (below (zonesSaid b))) 7 row8
+  row7 = cond (anyOf (repeated b) (numbersBelow (zonesSaid b))) 7 row8
 
   row6 : ℕ
-  row6 = cond (any (badZone b) (below (zonesSaid b))) 6 row7
+  row6 = cond (anyOf (badZone b) (numbersBelow (zonesSaid b))) 6 row7
 
   row5 : ℕ
   row5 = cond (wrongCount b) 5 row6
@@ -83,9 +83,9 @@ module _ (b : List ℕ) where
       let r3 = cond-past (wrongVersion b) 3 row4 k (none 3 (omega arith) (omega arith)) (r2 .1) in
       let r4 = cond-past (outOfRange b) 4 row5 k (none 4 (omega arith) (omega arith)) (r3 .1) in
       let r5 = cond-past (wrongCount b) 5 row6 k (none 5 (omega arith) (omega arith)) (r4 .1) in
-      let r6 = cond-past (any (badZone b) (below (zonesSaid b))) 6 row7 k (none 6 (omega arith) (omega arith)) (r5 .1) in
-      let r7 = cond-past (any (repeated b) (below (zonesSaid b))) 7 row8 k (none 7 (omega arith) (omega arith)) (r6 .1) in
-      let r8 = cond-past (any (underTwo b) (below (pointsSaid b))) 8 row9 k (none 8 (omega arith) (omega arith)) (r7 .1) in (
+      let r6 = cond-past (anyOf (badZone b) (numbersBelow (zonesSaid b))) 6 row7 k (none 6 (omega arith) (omega arith)) (r5 .1) in
+      let r7 = cond-past (anyOf (repeated b) (numbersBelow (zonesSaid b))) 7 row8 k (none 7 (omega arith) (omega arith)) (r6 .1) in
+      let r8 = cond-past (anyOf (underTwo b) (numbersBelow (pointsSaid b))) 8 row9 k (none 8 (omega arith) (omega arith)) (r7 .1) in (
         record {
           long = r1 .0;
           length-said = r2 .0;
@@ -118,9 +118,9 @@ module _ (b : List ℕ) where
       (cond-small (wrongVersion b) 3 _ (omega arith)
       (cond-small (outOfRange b) 4 _ (omega arith)
       (cond-small (wrongCount b) 5 _ (omega arith)
-      (cond-small (any (badZone b) (below (zonesSaid b))) 6 _ (omega arith)
-      (cond-small (any (repeated b) (below (zonesSaid b))) 7 _ (omega arith)
-      (cond-small (any (underTwo b) (below (pointsSaid b))) 8 _ (omega arith)
+      (cond-small (anyOf (badZone b) (numbersBelow (zonesSaid b))) 6 _ (omega arith)
+      (cond-small (anyOf (repeated b) (numbersBelow (zonesSaid b))) 7 _ (omega arith)
+      (cond-small (anyOf (underTwo b) (numbersBelow (pointsSaid b))) 8 _ (omega arith)
       (cond-small (apart b) 9 0 (omega arith) (omega arith)))))))))
 
 -- row 4
@@ -171,7 +171,7 @@ module _ (b : List ℕ) where
       four : rest3 ≡ true
       four = and-right (ltb (homeSaid b) (pointsSaid b)) rest3 three
 
-  pub good-zone : any (badZone b) (below (zonesSaid b)) ≡ false → (z : ℕ) → z < zonesSaid b → GoodZone b z
+  pub good-zone : anyOf (badZone b) (numbersBelow (zonesSaid b)) ≡ false → (z : ℕ) → z < zonesSaid b → GoodZone b z
   unfolding badZone
   good-zone zones z h = record {
     a-in = ltb-true (endA b z) (pointsSaid b) (not-false (ltb (endA b z) (pointsSaid b)) (or-false-left (not (ltb (endA b z) (pointsSaid b))) r1 f1));
@@ -214,20 +214,20 @@ module _ (b : List ℕ) (n : NoRow b) where
       same : ℕ → Bool
       same x = eqb (carrierIn b x) (carrierIn b z)
 
-      earlier : any same (below z) ≡ true
+      earlier : anyOf same (numbersBelow z) ≡ true
       earlier = below-any same z y h (eq-eqb (carrierIn b y) (carrierIn b z) e)
 
-      twice : (not (eqb (carrierIn b z) 0) && any same (below z)) ≡ true
-      twice = and-both (not (eqb (carrierIn b z) 0)) (any same (below z)) (ap not (ne-eqb (carrierIn b z) 0 m)) earlier
+      twice : (not (eqb (carrierIn b z) 0) && anyOf same (numbersBelow z)) ≡ true
+      twice = and-both (not (eqb (carrierIn b z) 0)) (anyOf same (numbersBelow z)) (ap not (ne-eqb (carrierIn b z) 0 m)) earlier
 
   -- row 8
-  pub not-under-two : (p : ℕ) → p < pointsSaid b → (p ≡ homeSaid b → ⊥) → 2 ≤ count (eqb p) (trackSaid b .ends)
+  pub not-under-two : (p : ℕ) → p < pointsSaid b → (p ≡ homeSaid b → ⊥) → 2 ≤ howMany (eqb p) (trackSaid b .ends)
   unfolding underTwo
-  not-under-two p h m = go (decided (ltb (count (eqb p) (trackSaid b .ends)) 2))
+  not-under-two p h m = go (decided (ltb (howMany (eqb p) (trackSaid b .ends)) 2))
     where
-      go : (ltb (count (eqb p) (trackSaid b .ends)) 2 ≡ true) ⊎ (ltb (count (eqb p) (trackSaid b .ends)) 2 ≡ false) → 2 ≤ count (eqb p) (trackSaid b .ends)
-      go (inl e) = both-ways (and-both (not (eqb p (homeSaid b))) (ltb (count (eqb p) (trackSaid b .ends)) 2) (ap not (ne-eqb p (homeSaid b) m)) e) (any-below-false (underTwo b) (pointsSaid b) (n .two-each) p h)
-      go (inr e) = ltb-false (count (eqb p) (trackSaid b .ends)) 2 e
+      go : (ltb (howMany (eqb p) (trackSaid b .ends)) 2 ≡ true) ⊎ (ltb (howMany (eqb p) (trackSaid b .ends)) 2 ≡ false) → 2 ≤ howMany (eqb p) (trackSaid b .ends)
+      go (inl e) = both-ways (and-both (not (eqb p (homeSaid b))) (ltb (howMany (eqb p) (trackSaid b .ends)) 2) (ap not (ne-eqb p (homeSaid b) m)) e) (any-below-false (underTwo b) (pointsSaid b) (n .two-each) p h)
+      go (inr e) = ltb-false (howMany (eqb p) (trackSaid b .ends)) 2 e
 
 -- what the bytes say of the track and the position
 
@@ -257,7 +257,7 @@ module _ (b : List ℕ) where
 
   pub length-position : length (positionSaid b) ≡ zonesSaid b
   unfolding positionSaid
-  length-position = length-map (below (zonesSaid b)) (λ z. 2 * carrierIn b z + headingIn b z) ∙ length-below (zonesSaid b)
+  length-position = length-map (numbersBelow (zonesSaid b)) (λ z. 2 * carrierIn b z + headingIn b z) ∙ length-below (zonesSaid b)
 
   pub at-said : (z : ℕ) → z < zonesSaid b → at (positionSaid b) z ≡ 2 * carrierIn b z + headingIn b z
   unfolding positionSaid
@@ -268,14 +268,14 @@ module _ (b : List ℕ) where
 
   pub length-ends : length (trackSaid b .ends) ≡ 2 * zonesSaid b
   unfolding trackSaid
-  length-ends = length-map (below (2 * zonesSaid b)) (endSaid b) ∙ length-below (2 * zonesSaid b)
+  length-ends = length-map (numbersBelow (2 * zonesSaid b)) (endSaid b) ∙ length-below (2 * zonesSaid b)
 
   pub zones-said : trackSaid b .zones ≡ zonesSaid b
   unfolding trackSaid
   zones-said = refl
 
 -- row 6 of words
-pub start-in : (b : List ℕ) → any (badZone b) (below (zonesSaid b)) ≡ false → (w : ℕ) → w < 2 * zonesSaid b → start (trackSaid b) w < pointsSaid b
+pub start-in : (b : List ℕ) → anyOf (badZone b) (numbersBelow (zonesSaid b)) ≡ false → (w : ℕ) → w < 2 * zonesSaid b → start (trackSaid b) w < pointsSaid b
 start-in b zones w h = go (heading-cases b w)
   where
     good : GoodZone b (zoneOf w)
@@ -357,22 +357,22 @@ module _ (b : List ℕ) (n : NoRow b) where
       like-home r = eqb (label ls r) (label ls (homeSaid b))
 
       of-home : (r : ℕ) → r < pointsSaid b → label ls r ≡ label ls (homeSaid b)
-      of-home r i = eqb-true (label ls r) (label ls (homeSaid b)) (all-below like-home (pointsSaid b) (not-false (all like-home (below (pointsSaid b))) together) r i)
+      of-home r i = eqb-true (label ls r) (label ls (homeSaid b)) (all-below like-home (pointsSaid b) (not-false (allOf like-home (numbersBelow (pointsSaid b))) together) r i)
 
   apart-said : apart b ≡ true → HangsTogether (trackSaid b) → ⊥
   unfolding apart trackSaid
   apart-said test hangs =
-      let x = all-below-false (λ r. eqb (label ls r) (label ls (homeSaid b))) (pointsSaid b) (not-true (all (λ r. eqb (label ls r) (label ls (homeSaid b))) (below (pointsSaid b))) test) in
+      let x = all-below-false (λ r. eqb (label ls r) (label ls (homeSaid b))) (pointsSaid b) (not-true (allOf (λ r. eqb (label ls r) (label ls (homeSaid b))) (numbersBelow (pointsSaid b))) test) in
       eqb-false (label ls (x .0)) (label ls (homeSaid b)) (x .2)
       (linked-parts (trackSaid b) (start-in b (n .zones)) (λ z. true) (x .0) (homeSaid b) (x .1) (linked-mono (trackSaid b) (λ z _ _. refl) (hangs (x .0) (homeSaid b) (x .1) (in-range b (n .range) .home-in))))
     where
       ls : List ℕ
       ls = parts (trackSaid b) (λ z. true)
 
-  numbers-said : ((i : ℕ) → getD b i 0 < 256) → (z : ℕ) → at (positionSaid b) z < 512
-  numbers-said bytes z = go (zone-inside z)
+  limited-said : ((i : ℕ) → getD b i 0 < 256) → Limited (positionSaid b)
+  limited-said bytes z = go (zone-inside z)
     where
-      go : (z < zonesSaid b) ⊎ (zonesSaid b ≤ z) → at (positionSaid b) z < 512
+      go : (z < zonesSaid b) ⊎ (zonesSaid b ≤ z) → at (positionSaid b) z < heldLimit
       go (inl h) =
           let q : at (positionSaid b) z ≡ 2 * carrierIn b z + headingIn b z = at-said b z h in
           let k : carrierIn b z < 256 = bytes (4 * z + 8) in
@@ -380,24 +380,29 @@ module _ (b : List ℕ) (n : NoRow b) where
           omega arith
       go (inr h) = let q : at (positionSaid b) z ≡ 0 = at-past b z h in omega arith
 
--- a board of bytes that meets none of the refusals is accepted
-pub accepted : (b : List ℕ) → ((i : ℕ) → getD b i 0 < 256) → refusal b ≡ 0 → Accepted (trackSaid b) (positionSaid b)
+-- a board of bytes that meets none of the refusals: its track is accepted
+pub accepted-track : (b : List ℕ) → refusal b ≡ 0 → AcceptedTrack (trackSaid b)
 unfolding trackSaid
-accepted b bytes e =
+accepted-track b e =
     let n : NoRow b = no-row b e in
     let r : InRange b = in-range b (n .range) in
     record {
-      laid = laid-said b n;
       points-least = r .points-least;
       points-most = r .points-most;
       zones-least = r .zones-least;
       zones-most = r .zones-most;
       ends-count = length-ends b;
       ends-differ = ends-apart b n;
-      numbers = numbers-said b n bytes;
       two-zones = not-under-two b n;
       hangs = hangs-said b n (together b e);
     }
+
+-- and its position is ready for the operations
+pub ready-said : (b : List ℕ) → ((i : ℕ) → getD b i 0 < 256) → refusal b ≡ 0 → Ready (trackSaid b) (positionSaid b)
+ready-said b bytes e =
+    let n : NoRow b = no-row b e in
+    let a : AcceptedTrack (trackSaid b) = accepted-track b e in
+    record { bounded = record { laid = laid-said b n; points-most = a .points-most; zones-most = a .zones-most; ends-count = a .ends-count }; limited = limited-said b n bytes }
 
 -- 9 is given only where some two points are not linked
 pub apart-nine : (b : List ℕ) → refusal b ≡ 9 → HangsTogether (trackSaid b) → ⊥

@@ -12,8 +12,8 @@ countUp k zero = []
 countUp k (suc n) = k ∷ countUp (suc k) n
 
 -- the numbers below n, ascending
-abbrev pub below : ℕ → List ℕ
-below n = countUp 0 n
+abbrev pub numbersBelow : ℕ → List ℕ
+numbersBelow n = countUp 0 n
 
 module _ {A : Type 0} where
   -- a put before l where the test holds
@@ -26,47 +26,44 @@ module _ {A : Type 0} where
   keep f [] = []
   keep f (a ∷ l) = consIf (f a) a (keep f l)
 
-  abbrev pub any : (A → Bool) → List A → Bool
-  any f [] = false
-  any f (a ∷ l) = f a || any f l
+  -- some element passes the test
+  abbrev pub anyOf : (A → Bool) → List A → Bool
+  anyOf f [] = false
+  anyOf f (a ∷ l) = f a || anyOf f l
 
-  abbrev pub all : (A → Bool) → List A → Bool
-  all f [] = true
-  all f (a ∷ l) = f a && all f l
+  -- every element passes the test
+  abbrev pub allOf : (A → Bool) → List A → Bool
+  allOf f [] = true
+  allOf f (a ∷ l) = f a && allOf f l
 
-  abbrev pub orElse : Bool → A → Option A → Option A
-  orElse true a o = some a
-  orElse false a o = o
+  -- a where the test holds
+  abbrev pub thisElse : Bool → A → Option A → Option A
+  thisElse true a o = some a
+  thisElse false a o = o
 
   -- the first that passes the test
   abbrev pub first : (A → Bool) → List A → Option A
   first f [] = none
-  first f (a ∷ l) = let o = first f l in orElse (f a) a o
+  first f (a ∷ l) = let o = first f l in thisElse (f a) a o
 
   -- how many pass the test
-  abbrev pub count : (A → Bool) → List A → ℕ
-  count f l = length (keep f l)
+  abbrev pub howMany : (A → Bool) → List A → ℕ
+  howMany f l = length (keep f l)
 
-module _ {A B : Type 0} where
-  abbrev pub foldLeft : (B → A → B) → B → List A → B
-  foldLeft f b [] = b
-  foldLeft f b (a ∷ l) = foldLeft f (f b a) l
-
-module _ {A : Type 0} where
   -- f done n times
-  abbrev pub times : ℕ → (A → A) → A → A
-  times zero f a = a
-  times (suc n) f a = times n f (f a)
+  abbrev pub nTimes : ℕ → (A → A) → A → A
+  nTimes zero f a = a
+  nTimes (suc n) f a = nTimes n f (f a)
 
 -- a into an ascending list
-abbrev pub insert : ℕ → List ℕ → List ℕ
-insert a [] = a ∷ []
-insert a (b ∷ l) = let r = insert a l in cond (leb a b) (a ∷ b ∷ l) (b ∷ r)
+abbrev pub inserted : ℕ → List ℕ → List ℕ
+inserted a [] = a ∷ []
+inserted a (b ∷ l) = let r = inserted a l in cond (leb a b) (a ∷ b ∷ l) (b ∷ r)
 
 -- the same numbers, ascending
 abbrev pub ascending : List ℕ → List ℕ
 ascending [] = []
-ascending (a ∷ l) = insert a (ascending l)
+ascending (a ∷ l) = inserted a (ascending l)
 
 -- each number is below all that come after it
 abbrev pub Ascending : List ℕ → Type 0

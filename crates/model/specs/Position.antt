@@ -5,7 +5,7 @@ use mathlib.Core.Path.{_≡_}
 use mathlib.Core.Bool.{Bool, cond, not}
 use lib.ListN.{length, getD}
 use lib.Dec.{eqb}
-use Rattle.model.specs.Lists.{keep, ascending}
+use Rattle.model.specs.Lists.{keep, anyOf, ascending}
 use Rattle.model.specs.Track.{zoneOf, headingOf}
 
 abbrev pub Position : Type 0
@@ -47,6 +47,10 @@ without gone p = map (λ v. cond (gone (carrierOf v)) 0 v) p
 -- one carrier taken off: its zone is free
 abbrev pub retire : ℕ → Position → Position
 retire c p = without (eqb c) p
+
+-- only these carriers left, where they stand
+abbrev pub onlyLeft : List ℕ → Position → Position
+onlyLeft cs p = without (λ c. not (anyOf (eqb c) cs)) p
 
 -- the carriers out, ascending
 abbrev pub outs : Position → List ℕ

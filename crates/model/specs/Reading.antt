@@ -4,7 +4,7 @@ use mathlib.Core.List.{List, map}
 use mathlib.Core.Bool.{Bool, true, cond, not, _&&_, _||_}
 use lib.ListN.{length, getD}
 use lib.Dec.{leb, ltb, eqb}
-use Rattle.model.specs.Lists.{below, any, all, count}
+use Rattle.model.specs.Lists.{numbersBelow, anyOf, allOf, howMany}
 use Rattle.model.specs.Track.{Track}
 use Rattle.model.specs.Position.{Position}
 use Rattle.model.specs.Labels.{label, parts}
@@ -49,11 +49,11 @@ module _ (b : List ℕ) where
     points = pointsSaid;
     home = homeSaid;
     zones = zonesSaid;
-    ends = map endSaid (below (2 * zonesSaid));
+    ends = map endSaid (numbersBelow (2 * zonesSaid));
   }
 
   unfoldable pub positionSaid : Position
-  positionSaid = map (λ z. 2 * carrierIn z + headingIn z) (below zonesSaid)
+  positionSaid = map (λ z. 2 * carrierIn z + headingIn z) (numbersBelow zonesSaid)
 
   -- row 1: under 6 bytes
   unfoldable pub tooShort : Bool
@@ -86,17 +86,17 @@ module _ (b : List ℕ) where
 
   -- row 7, of one zone: its carrier stands in an earlier zone too
   unfoldable pub repeated : ℕ → Bool
-  repeated z = not (eqb (carrierIn z) 0) && any (λ y. eqb (carrierIn y) (carrierIn z)) (below z)
+  repeated z = not (eqb (carrierIn z) 0) && anyOf (λ y. eqb (carrierIn y) (carrierIn z)) (numbersBelow z)
 
   -- row 8, of one point: another than home, and under two zones. A zone counts once for each of its ends at the point.
   unfoldable pub underTwo : ℕ → Bool
-  underTwo p = not (eqb p homeSaid) && ltb (count (eqb p) (trackSaid .ends)) 2
+  underTwo p = not (eqb p homeSaid) && ltb (howMany (eqb p) (trackSaid .ends)) 2
 
   -- row 9: points that don't hang together
   unfoldable pub apart : Bool
   apart =
       let ls = parts trackSaid (λ z. true) in
-      not (all (λ p. eqb (label ls p) (label ls homeSaid)) (below pointsSaid))
+      not (allOf (λ p. eqb (label ls p) (label ls homeSaid)) (numbersBelow pointsSaid))
 
   -- the number of the first row that holds, 0 where none does
   unfoldable pub refusal : ℕ
@@ -106,7 +106,7 @@ module _ (b : List ℕ) where
       (cond wrongVersion 3
       (cond outOfRange 4
       (cond wrongCount 5
-      (cond (any badZone (below zonesSaid)) 6
-      (cond (any repeated (below zonesSaid)) 7
-      (cond (any underTwo (below pointsSaid)) 8
+      (cond (anyOf badZone (numbersBelow zonesSaid)) 6
+      (cond (anyOf repeated (numbersBelow zonesSaid)) 7
+      (cond (anyOf underTwo (numbersBelow pointsSaid)) 8
       (cond apart 9 0))))))))

@@ -3,6 +3,7 @@ use Prim.Native.Nat.{ℕ, _+_, _-_, _*_, _/_, _%_, _<_}
 use mathlib.Core.List.{List}
 use mathlib.Core.Path.{_≡_}
 use lib.ListN.{getD}
+use Rattle.model.specs.declared.Head.{Head}
 
 -- points P, the home point, zones Z, and the two ends of each zone: end A of zone 0, its end B, end A of zone 1, ..
 pub record Track : Type 0 where
@@ -12,8 +13,8 @@ pub record Track : Type 0 where
   pub ends : List ℕ
 
 -- the track that the code's numbers and its list of ends are
-abbrev pub trackOf : ℕ → ℕ → ℕ → List ℕ → Track
-trackOf points home zones ends = record { points = points; home = home; zones = zones; ends = ends }
+abbrev pub trackOf : Head → List ℕ → Track
+trackOf head ends = record { points = head .points; home = head .home; zones = head .zones; ends = ends }
 
 -- a word is 2 × zone + heading: its zone
 abbrev pub zoneOf : ℕ → ℕ

@@ -26,7 +26,7 @@ module _ {t : Track} where
   moved-keeps-laid laid (Moved.forbidden n) = laid
 
   pub moves-laid : {p q : Position} {ms : List Move} → Laid t p → Moves t p ms q → Laid t q
-  moves-laid laid Moves.none = laid
+  moves-laid laid Moves.unmoved = laid
   moves-laid laid (Moves.more y ys) = moves-laid (moved-keeps-laid laid y) ys
 
   -- what a move leaves does not turn on where its carrier is found standing
@@ -41,7 +41,7 @@ module _ {t : Track} where
   moved-one (Moved.forbidden n) (Moved.forbidden m) = refl
 
   pub moves-one : {p q r : Position} {ms : List Move} → Moves t p ms q → Moves t p ms r → q ≡ r
-  moves-one Moves.none Moves.none = refl
+  moves-one Moves.unmoved Moves.unmoved = refl
   moves-one (Moves.more y ys) (Moves.more {r = r} {ms = ms} z zs) = moves-one ys (subst (λ (a : Position). Moves t a ms r) (sym (moved-one y z)) zs)
 
 module _ {t : Track} {p : Position} (laid : Laid t p) where
@@ -91,7 +91,7 @@ module _ {t : Track} {p : Position} (laid : Laid t p) where
       who (inr n) = (p, Moved.forbidden (λ q a. n (out-home a)))
 
 pub moves-exist : {t : Track} {p : Position} → Laid t p → (ms : List Move) → (q : Position) × Moves t p ms q
-moves-exist {p = p} laid [] = (p, Moves.none)
+moves-exist {p = p} laid [] = (p, Moves.unmoved)
 moves-exist laid (m ∷ ms) =
     let y = move-exists laid m in
     let r = moves-exist (moved-keeps-laid laid (y .1)) ms in

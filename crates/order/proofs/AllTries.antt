@@ -27,12 +27,12 @@ module _ {t : Track} where
   try-one (refused n) (refused m) = refl
 
   pub tries-exist : {p : Position} → Laid t p → (cs : List ℕ) → (q : Position) × Tries t p cs q
-  tries-exist {p} laid [] = (p, Tries.none)
+  tries-exist {p} laid [] = (p, Tries.untried)
   tries-exist {p} laid (c ∷ cs) =
       let y = try-exists laid c in
       let r = tries-exist (laid-within (within-try (y .1)) laid) cs in
       (r .0, Tries.more (y .1) (r .1))
 
   pub tries-one : {p q r : Position} {cs : List ℕ} → Tries t p cs q → Tries t p cs r → q ≡ r
-  tries-one Tries.none Tries.none = refl
+  tries-one Tries.untried Tries.untried = refl
   tries-one (Tries.more y ts) (Tries.more {r = r} {cs = cs} z us) = tries-one ts (subst (λ (a : Position). Tries t a cs r) (sym (try-one y z)) us)

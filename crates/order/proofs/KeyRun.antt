@@ -14,18 +14,18 @@ use Rattle.model.proofs.PositionLaws.{mem-outs, outs-mem, outs-ascending, outs-
 use Rattle.rules.specs.Routes.{Entry, Retires}
 use Rattle.rules.specs.Tries.{CanGo, NoneCanGo}
 use Rattle.rules.specs.Key.{leastRoute, firstToGo, runOn, runFor, run}
-use Rattle.order.specs.Lowest.{Lowest, ended, leaves}
+use Rattle.order.specs.LowestFirst.{LowestFirst, ended, leaves}
 use Rattle.order.proofs.Within.{laid-within}
 use Rattle.order.proofs.LastPosition.{goer-out, within-retires}
 use Rattle.order.proofs.LeastRoute.{route-least-exists, route-least}
 use Rattle.order.proofs.FirstToGo.{First, first-to-go, none-to-go}
 
 -- the order holds a sequence of retirements, and none can go after it
-pub lowest-retires : {t : Track} {p q : Position} {es : List Entry} → Lowest t p es q → Retires t p es q
+pub lowest-retires : {t : Track} {p q : Position} {es : List Entry} → LowestFirst t p es q → Retires t p es q
 lowest-retires (ended n) = Retires.done
 lowest-retires (leaves l r rest) = Retires.next (r .goes) (lowest-retires rest)
 
-pub lowest-ends : {t : Track} {p q : Position} {es : List Entry} → Lowest t p es q → NoneCanGo t q
+pub lowest-ends : {t : Track} {p q : Position} {es : List Entry} → LowestFirst t p es q → NoneCanGo t q
 lowest-ends (ended n) = n
 lowest-ends (leaves l r rest) = lowest-ends rest
 
@@ -44,13 +44,13 @@ out-counted p {c} o = go (outs p) (outs-mem p o)
     go (d ∷ l) m = omega arith
 
 module _ (t : Track) where
-  run-for-lowest : (n : ℕ) (p : Position) → Laid t p → length (outs p) ≤ n → Lowest t p (runFor n t p .plan) (runFor n t p .last)
+  run-for-lowest : (n : ℕ) (p : Position) → Laid t p → length (outs p) ≤ n → LowestFirst t p (runFor n t p .plan) (runFor n t p .last)
   unfolding runFor
   run-for-lowest zero p laid few = ended (λ c g. let k : 0 < length (outs p) = out-counted p (goer-out (g .1)) in omega arith)
   run-for-lowest (suc n) p laid few = go (firstToGo t p (outs p)) refl (run-for-lowest n)
     where
-      go : (o : Option Entry) → firstToGo t p (outs p) ≡ o → ((q : Position) → Laid t q → length (outs q) ≤ n → Lowest t q (runFor n t q .plan) (runFor n t q .last))
-          → Lowest t p (runOn p o (λ e. runFor n t (retire (e .carrier) p)) .plan) (runOn p o (λ e. runFor n t (retire (e .carrier) p)) .last)
+      go : (o : Option Entry) → firstToGo t p (outs p) ≡ o → ((q : Position) → Laid t q → length (outs q) ≤ n → LowestFirst t q (runFor n t q .plan) (runFor n t q .last))
+          → LowestFirst t p (runOn p o (λ e. runFor n t (retire (e .carrier) p)) .plan) (runOn p o (λ e. runFor n t (retire (e .carrier) p)) .last)
       go none f ih = ended (λ c g. no-least laid (none-to-go t p (outs p) f c (outs-mem p (goer-out (g .1)))) g)
       go (some e) f ih =
           let a : First t p (outs p) e = first-to-go t p (outs p) (outs-ascending p (laid .once)) f in
@@ -60,7 +60,7 @@ module _ (t : Track) where
           (ih (retire (e .carrier) p) (laid-retire t (e .carrier) p laid) (omega arith))
 
   module _ (p : Position) (laid : Laid t p) where
-    pub run-lowest : Lowest t p (run t p .plan) (run t p .last)
+    pub run-lowest : LowestFirst t p (run t p .plan) (run t p .last)
     unfolding run
     run-lowest = run-for-lowest (length (outs p)) p laid (le-refl _)
 

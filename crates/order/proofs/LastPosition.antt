@@ -23,7 +23,7 @@ within-try {p = p} {c = c} (went g) = within-retired c p
 within-try {p = p} (refused n) = within-self p
 
 pub within-tries : {t : Track} {p q : Position} {cs : List ℕ} → Tries t p cs q → Within q p
-within-tries {p = p} Tries.none = within-self p
+within-tries {p = p} Tries.untried = within-self p
 within-tries (Tries.more y ts) = within-trans (within-tries ts) (within-try y)
 
 pub within-retires : {t : Track} {p q : Position} {es : List Entry} → Retires t p es q → Within q p
@@ -32,7 +32,7 @@ within-retires {p = p} (Retires.next {e = e} r rs) = within-trans (within-retire
 
 -- a sequence of retirements is a list of tries, none of them refused
 pub tries-of-retires : {t : Track} {p q : Position} {es : List Entry} → Retires t p es q → Tries t p (map (λ e. e .carrier) es) q
-tries-of-retires Retires.done = Tries.none
+tries-of-retires Retires.done = Tries.untried
 tries-of-retires (Retires.next {e = e} r rs) = Tries.more (went (e .words, r)) (tries-of-retires rs)
 
 module _ {t : Track} {last : Position} (ended : NoneCanGo t last) where
@@ -46,7 +46,7 @@ module _ {t : Track} {last : Position} (ended : NoneCanGo t last) where
 
   -- the last position stays within all that tries lead to
   pub stays-tries : {p q : Position} {cs : List ℕ} → Once p → Within last p → Tries t p cs q → Within last q
-  stays-tries once a Tries.none = a
+  stays-tries once a Tries.untried = a
   stays-tries once a (Tries.more y ts) = stays-tries (once-within (within-try y) once) (stays-try once a y) ts
 
   -- a last position is within what retirements from a position around it lead to

@@ -21,7 +21,7 @@ use Rattle.rules.specs.Tries.{CanGo}
 use Rattle.rules.specs.Key.{nexts, leavesHome, zoneFor, routeFrom, leastRoute}
 use Rattle.least.specs.Ways.{Way, Before, differs, later}
 use Rattle.least.proofs.LeastWay.{least-sound, least-shortest, least-smallest, least-exists}
-use Rattle.order.specs.Lowest.{Least}
+use Rattle.order.specs.LowestFirst.{Least}
 use Rattle.order.proofs.Steps.{nexts-step, step-nexts, nexts-below, nexts-ascending}
 use Rattle.order.proofs.Standing.{zone-stands, stands-zone}
 use Rattle.order.proofs.LastPosition.{goer-numbered}

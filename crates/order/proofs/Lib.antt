@@ -1,4 +1,5 @@
 pub mod Within
+pub mod OnlyLeft
 pub mod Fewer
 pub mod LastPosition
 pub mod Steps

@@ -14,7 +14,7 @@ use Rattle.rules.specs.Routes.{Entry}
 use Rattle.rules.specs.Tries.{CanGo}
 use Rattle.rules.specs.Key.{run}
 use Rattle.least.specs.Ways.{Before}
-use Rattle.order.specs.Lowest.{Least, Lowest, ended, leaves}
+use Rattle.order.specs.LowestFirst.{Least, LowestFirst, ended, leaves}
 use Rattle.order.proofs.LeastRoute.{before-once}
 use Rattle.order.proofs.KeyRun.{run-lowest}
 
@@ -42,15 +42,15 @@ module _ {t : Track} where
       let same : d .words ≡ e .words = least-one (rw q at a) b in
       λ i. record { carrier = q i; words = same i }
 
-  pub lowest-one : {p q r : Position} {es fs : List Entry} → Lowest t p es q → Lowest t p fs r → (es ≡ fs) × (q ≡ r)
+  pub lowest-one : {p q r : Position} {es fs : List Entry} → LowestFirst t p es q → LowestFirst t p fs r → (es ≡ fs) × (q ≡ r)
   lowest-one (ended n) (ended m) = (refl, refl)
   lowest-one (ended n) (leaves {e = e} l a rest) = absurd (n (e .carrier) (e .words, a .goes))
   lowest-one (leaves {e = e} l a rest) (ended n) = absurd (n (e .carrier) (e .words, a .goes))
   lowest-one {p} (leaves {e = d} {es = ds} l a rest) (leaves {q = r} {e = e} {es = es} m b rest′) =
       let same : d .carrier ≡ e .carrier = next-carrier l a m b in
-      let tail = lowest-one rest (subst (λ (c : ℕ). Lowest t (retire c p) es r) (sym same) rest′) in
+      let tail = lowest-one rest (subst (λ (c : ℕ). LowestFirst t (retire c p) es r) (sym same) rest′) in
       (ap₂ (λ (x : Entry) (y : List Entry). x ∷ y) (next-entry same a b) (tail .0), tail .1)
 
   -- a sequence in the key's order is the key's plan
-  pub plan-only : {p q : Position} {es : List Entry} → Laid t p → Lowest t p es q → (es ≡ run t p .plan) × (q ≡ run t p .last)
+  pub plan-only : {p q : Position} {es : List Entry} → Laid t p → LowestFirst t p es q → (es ≡ run t p .plan) × (q ≡ run t p .last)
   plan-only {p} laid l = lowest-one l (run-lowest t p laid)

@@ -14,7 +14,7 @@ use Rattle.model.proofs.AscendingLaws.{NoRepeats}
 use Rattle.model.proofs.PositionLaws.{stands-below, laid-retire}
 use Rattle.rules.specs.Routes.{Onward, Route, route, Entry}
 use Rattle.rules.specs.Key.{run, named, planWords}
-use Rattle.order.specs.Lowest.{Least, Lowest, ended, leaves}
+use Rattle.order.specs.LowestFirst.{Least, LowestFirst, ended, leaves}
 use Rattle.order.proofs.LastPosition.{goer-numbered}
 use Rattle.order.proofs.LeastRoute.{route-least-exists, route-least-sound}
 use Rattle.order.proofs.KeyRun.{run-lowest, run-retires}
@@ -51,7 +51,7 @@ pub record Fits (t : Track) (e : Entry) : Type 0 where
   pub words-below : (w : ℕ) → List·Memᴰ w (e .words) → w < 2 * t .zones
 
 module _ {t : Track} where
-  lowest-fits : {p q : Position} {es : List Entry} → Laid t p → Lowest t p es q → (e : Entry) → List·Memᴰ e es → Fits t e
+  lowest-fits : {p q : Position} {es : List Entry} → Laid t p → LowestFirst t p es q → (e : Entry) → List·Memᴰ e es → Fits t e
   lowest-fits laid (ended n) e m = absurd (List·Memᴰ·not-nil m)
   lowest-fits {p} laid (leaves {e = f} {es = es} l r rest) e m = go (List·Memᴰ·cases-cons m) (lowest-fits (laid-retire t (f .carrier) p laid) rest e)
     where

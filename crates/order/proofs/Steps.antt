@@ -2,7 +2,7 @@
 -- They are kept from the words below 2 × Z by a test that holds exactly where the rule does.
 use Prim.Native.Nat.{ℕ, _*_, _<_}
 use mathlib.Core.List.{List·Memᴰ}
-use Rattle.model.specs.Lists.{below, Ascending}
+use Rattle.model.specs.Lists.{numbersBelow, Ascending}
 use Rattle.model.specs.Track.{Track}
 use Rattle.model.specs.Position.{Position}
 use Rattle.model.proofs.ListLaws.{mem-keep, keep-mem, mem-below, below-mem}
@@ -14,7 +14,7 @@ use Rattle.rules.proofs.StepTested.{step-of-test, test-of-step}
 module _ (t : Track) (p : Position) (c w v : ℕ) where
   pub nexts-step : List·Memᴰ v (nexts t p c w) → Step t p c w v
   unfolding nexts
-  nexts-step m = let k = mem-keep (steps t p c w) (below (2 * t .zones)) m in step-of-test t p c w v (mem-below (2 * t .zones) (k .0)) (k .1)
+  nexts-step m = let k = mem-keep (steps t p c w) (numbersBelow (2 * t .zones)) m in step-of-test t p c w v (mem-below (2 * t .zones) (k .0)) (k .1)
 
   pub step-nexts : Step t p c w v → List·Memᴰ v (nexts t p c w)
   unfolding nexts
@@ -25,4 +25,4 @@ module _ (t : Track) (p : Position) (c w v : ℕ) where
 
 pub nexts-ascending : (t : Track) (p : Position) (c w : ℕ) → Ascending (nexts t p c w)
 unfolding nexts
-nexts-ascending t p c w = keep-ascending (steps t p c w) (below (2 * t .zones)) (below-ascending (2 * t .zones))
+nexts-ascending t p c w = keep-ascending (steps t p c w) (numbersBelow (2 * t .zones)) (below-ascending (2 * t .zones))

@@ -14,7 +14,7 @@ use Rattle.rules.specs.Key.{named, verdictOf}
 use Rattle.order.specs.HowManyBlocked.{OneBlocked, TwoBlocked}
 use Rattle.order.proofs.Named.{named-ascending, named-blocked, blocked-named, unnamed-ordered, ordered-unnamed}
 
-zero-none : (l : List ℕ) → verdictOf l ≡ 0 → l ≡ []
+pub zero-none : (l : List ℕ) → verdictOf l ≡ 0 → l ≡ []
 zero-none [] e = refl
 zero-none (c ∷ []) e = absurd (omega arith)
 zero-none (c ∷ d ∷ l) e = absurd (omega arith)

@@ -1,2 +1,2 @@
-pub mod Lowest
+pub mod LowestFirst
 pub mod HowManyBlocked

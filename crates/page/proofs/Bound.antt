@@ -8,16 +8,17 @@ use native.Mathlib.Omega.{arith}
 use borrow.Author.Tests.{eqb-true}
 use lib.ListN.{length, length-append}
 use lib.Dec.{ltb, eqb}
+use Rattle.model.specs.declared.Summary.{Summary}
 use Rattle.model.specs.Reading.{refusal, trackSaid, positionSaid}
 use Rattle.model.specs.Track.{Track, zoneOf, headingOf}
 use Rattle.model.specs.Position.{Position, outs}
 use Rattle.model.proofs.ReadingLaws.{refusal-small}
 use Rattle.rules.specs.Routes.{Entry}
 use Rattle.rules.specs.Key.{run, named, verdictOf}
-use Rattle.page.specs.Page.{spelled, inRow, decimal, labelled, wordText, spaced, entryLine, entryLines, blockedText, headLines, keyPage, refusedPage, tooLongPage, pageFor, pageOf, PAGE}
+use Rattle.page.specs.Page.{spelled, inSequence, decimal, labelled, wordText, spaced, entryLine, entryLines, blockedText, firstLines, keyPage, refusedPage, tooLongPage, pageFor, pageOf, PAGE}
 use Rattle.page.proofs.DecimalLaws.{below-hundred, below-thousand}
 use Rattle.page.proofs.PlanPut.{entryPieces}
-use Rattle.page.proofs.PagePut.{headPieces, keyPieces}
+use Rattle.page.proofs.PagePut.{firstPieces, keyPieces}
 
 -- an entry of a plan on at most 96 zones
 pub record SmallEntry (e : Entry) : Type 0 where
@@ -26,10 +27,10 @@ pub record SmallEntry (e : Entry) : Type 0 where
   pub words-small : (w : ℕ) → List·Memᴰ w (e .words) → w < 192
 
 -- what a page of a board of at most 96 zones is written from
-pub record SmallKey (points zones out verdict : ℕ) (es : List Entry) (blocked : List ℕ) : Type 0 where
-  pub points-small : points < 1000
-  pub zones-small : zones < 1000
-  pub out-small : out < 1000
+pub record SmallKey (summary : Summary) (verdict : ℕ) (es : List Entry) (blocked : List ℕ) : Type 0 where
+  pub points-small : summary .points < 1000
+  pub zones-small : summary .zones < 1000
+  pub out-small : summary .out < 1000
   pub verdict-small : verdict < 1000
   pub entries-few : length es ≤ 96
   pub entries-small : (e : Entry) → List·Memᴰ e es → SmallEntry e
@@ -38,15 +39,15 @@ pub record SmallKey (points zones out verdict : ℕ) (es : List Entry) (blocked 
 
 -- the same of a track and its first position
 abbrev pub SmallPage : Track → Position → Type 0
-SmallPage t p = SmallKey (t .points) (t .zones) (length (outs p)) (verdictOf (named t p)) (run t p .plan) (named t p)
+SmallPage t p = SmallKey (record { points = t .points; zones = t .zones; out = length (outs p) }) (verdictOf (named t p)) (run t p .plan) (named t p)
 
 abbrev lengths : List (List ℕ) → ℕ
 lengths [] = 0
 lengths (a ∷ l) = length a + lengths l
 
-row-length : (l : List (List ℕ)) → length (inRow l) ≡ lengths l
+row-length : (l : List (List ℕ)) → length (inSequence l) ≡ lengths l
 row-length [] = refl
-row-length (a ∷ l) = length-append a (inRow l) ∙ ap (λ (n : ℕ). length a + n) (row-length l)
+row-length (a ∷ l) = length-append a (inSequence l) ∙ ap (λ (n : ℕ). length a + n) (row-length l)
 
 labelled-length : (label : List ℕ) (n : ℕ) → n < 1000 → length (labelled label n) ≤ length label + 3
 labelled-length label n h = let r = row-length (label ∷ decimal n ∷ []) in let d = below-thousand n h in omega arith
@@ -55,7 +56,7 @@ word-length : (w : ℕ) → w < 192 → length (wordText w) ≤ 3
 unfolding wordText
 word-length w h = go (eqb (headingOf w) 0)
   where
-    go : (t : Bool) → length (inRow (decimal (zoneOf w) ∷ cond t (spelled "+") (spelled "-") ∷ [])) ≤ 3
+    go : (t : Bool) → length (inSequence (decimal (zoneOf w) ∷ cond t (spelled "+") (spelled "-") ∷ [])) ≤ 3
     go true = let r = row-length (decimal (zoneOf w) ∷ spelled "+" ∷ []) in let d = below-hundred (zoneOf w) (omega arith) in omega arith
     go false = let r = row-length (decimal (zoneOf w) ∷ spelled "-" ∷ []) in let d = below-hundred (zoneOf w) (omega arith) in omega arith
 
@@ -104,26 +105,26 @@ unfolding blockedText
 blocked-length [] few small = omega arith
 blocked-length (c ∷ cs) few small = let s = spaced-length decimal (c ∷ cs) (λ a m. below-thousand a (small a m)) in omega arith
 
-module _ {points zones out verdict : ℕ} {es : List Entry} {blocked : List ℕ} (s : SmallKey points zones out verdict es blocked) where
-  head-sum : length (headLines points zones out verdict) ≡ lengths (headPieces points zones out verdict)
-  unfolding headLines
-  head-sum = row-length (headPieces points zones out verdict)
+module _ {summary : Summary} {verdict : ℕ} {es : List Entry} {blocked : List ℕ} (s : SmallKey summary verdict es blocked) where
+  first-sum : length (firstLines summary verdict) ≡ lengths (firstPieces summary verdict)
+  unfolding firstLines
+  first-sum = row-length (firstPieces summary verdict)
 
-  head-length : length (headLines points zones out verdict) ≤ 47
-  head-length =
-      let p = labelled-length (spelled "board ") points (s .points-small) in
-      let z = labelled-length (spelled " points ") zones (s .zones-small) in
-      let o = labelled-length (spelled " zones ") out (s .out-small) in
+  first-length : length (firstLines summary verdict) ≤ 47
+  first-length =
+      let p = labelled-length (spelled "board ") (summary .points) (s .points-small) in
+      let z = labelled-length (spelled " points ") (summary .zones) (s .zones-small) in
+      let o = labelled-length (spelled " zones ") (summary .out) (s .out-small) in
       let v = labelled-length (spelled " out\nverdict ") verdict (s .verdict-small) in
-      omega (arith, head-sum)
+      omega (arith, first-sum)
 
-  page-sum : length (keyPage points zones out verdict es blocked) ≡ lengths (keyPieces points zones out verdict es blocked)
+  page-sum : length (keyPage summary verdict es blocked) ≡ lengths (keyPieces summary verdict es blocked)
   unfolding keyPage
-  page-sum = row-length (keyPieces points zones out verdict es blocked)
+  page-sum = row-length (keyPieces summary verdict es blocked)
 
-  pub key-page-fits : length (keyPage points zones out verdict es blocked) ≤ PAGE
+  pub key-page-fits : length (keyPage summary verdict es blocked) ≤ PAGE
   key-page-fits =
-      let h = head-length in
+      let h = first-length in
       let l = lines-length es (s .entries-small) in
       let b = blocked-length blocked (s .blocked-few) (s .blocked-small) in
       omega (arith, page-sum)

@@ -6,6 +6,7 @@ use mathlib.Core.List.{List}
 use native.Mathlib.Nat.{le-trans}
 use borrow.Author.Tests.{lt-ltb, le-ltb, eq-eqb, ne-eqb}
 use lib.ListN.{length, take}
+use Rattle.model.specs.declared.Summary.{Summary}
 use Rattle.model.specs.Reading.{refusal, trackSaid, positionSaid}
 use Rattle.rules.specs.Routes.{Entry}
 use Rattle.rules.specs.Key.{planWords}
@@ -15,11 +16,11 @@ use Rattle.page.proofs.PlanLaws.{is-plan, entries-in-plan}
 use Rattle.page.proofs.Bound.{SmallKey, key-page-fits}
 
 -- `entries-in-plan es written` then turns what `write_key` ensures to these entries
-pub writable : {points zones out verdict words count : ℕ} {plan list page : List ℕ} (es : List Entry) → take words plan ≡ planWords es → words ≤ length plan → count ≤ length list → SmallKey points zones out verdict es (take count list) → PAGE ≤ length page → Writable points zones out verdict plan words list count page
-writable es written words-in count-in small long = record {
-  words-in = words-in;
-  count-in = count-in;
-  planned = is-plan es written;
+pub writable : {summary : Summary} {verdict planned listed : ℕ} {plan list page : List ℕ} (es : List Entry) → take planned plan ≡ planWords es → planned ≤ length plan → listed ≤ length list → SmallKey summary verdict es (take listed list) → PAGE ≤ length page → Writable summary verdict plan planned list listed page
+writable es written plan-in list-in small long = record {
+  plan-in = plan-in;
+  list-in = list-in;
+  is-plan = is-plan es written;
   room = rw (entries-in-plan es written) (le-trans (key-page-fits small) long);
 }
 

@@ -1,5 +1,5 @@
 -- A number in decimal: one digit below 10, else the number without its last digit and then that digit; three digits at most below 1000.
--- How far `digits` may go is of no matter once it is above the number.
+-- How far `digitsOf` may go is of no matter once it is above the number.
 use Prim.Native.Nat.{ℕ, zero, suc, _+_, _/_, _%_, _≤_, _<_}
 use mathlib.Core.Path.{_≡_, refl, ap, _∙_}
 use mathlib.Core.List.{List, [], _∷_, _++_}
@@ -8,22 +8,22 @@ use native.Mathlib.Omega.{arith}
 use borrow.Author.Tests.{lt-ltb, le-ltb, ltb-true, ltb-false}
 use lib.ListN.{length, length-append}
 use lib.Dec.{ltb}
-use Rattle.page.specs.Page.{digits, decimal}
+use Rattle.page.specs.Page.{digitsOf, decimal}
 
-digits-few : (k n : ℕ) → n < 10 → digits (suc k) n ≡ (48 + n) ∷ []
-unfolding digits
+digits-few : (k n : ℕ) → n < 10 → digitsOf (suc k) n ≡ (48 + n) ∷ []
+unfolding digitsOf
 digits-few k n h = rw (lt-ltb n 10 h)
 
-digits-more : (k n : ℕ) → 10 ≤ n → digits (suc k) n ≡ digits k (n / 10) ++ ((48 + n % 10) ∷ [])
-unfolding digits
+digits-more : (k n : ℕ) → 10 ≤ n → digitsOf (suc k) n ≡ digitsOf k (n / 10) ++ ((48 + n % 10) ∷ [])
+unfolding digitsOf
 digits-more k n h = rw (le-ltb n 10 h)
 
-digits-enough : (k j n : ℕ) → n < k → n < j → digits k n ≡ digits j n
+digits-enough : (k j n : ℕ) → n < k → n < j → digitsOf k n ≡ digitsOf j n
 digits-enough zero j n h i = absurd (omega arith)
 digits-enough (suc k) zero n h i = absurd (omega arith)
 digits-enough (suc k) (suc j) n h i = go (ltb n 10) refl (λ few. digits-enough k j (n / 10) (omega arith) (omega arith))
   where
-    go : (t : Bool) → ltb n 10 ≡ t → (10 ≤ n → digits k (n / 10) ≡ digits j (n / 10)) → digits (suc k) n ≡ digits (suc j) n
+    go : (t : Bool) → ltb n 10 ≡ t → (10 ≤ n → digitsOf k (n / 10) ≡ digitsOf j (n / 10)) → digitsOf (suc k) n ≡ digitsOf (suc j) n
     go true e same = digits-few k n (ltb-true n 10 e) ∙ rw (digits-few j n (ltb-true n 10 e))
     go false e same =
         digits-more k n (ltb-false n 10 e) ∙ rw (digits-more j n (ltb-false n 10 e))

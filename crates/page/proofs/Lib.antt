@@ -1,7 +1,7 @@
 pub mod BoardPages
 pub mod DecimalLaws
 pub mod PutLaws
-pub mod NumberPut
+pub mod DecimalPut
 pub mod WordPut
 pub mod SpacedPut
 pub mod PlanLaws

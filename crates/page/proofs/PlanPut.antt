@@ -8,14 +8,14 @@ use lib.ListN.{length, take, drop, getD, drop-of-length-le}
 use Rattle.rules.specs.Routes.{Entry}
 use Rattle.rules.specs.Key.{planWords}
 use Rattle.page.specs.Page.{spelled, labelled, wordText, spaced, entryLine, entryLines}
-use Rattle.page.specs.Writing.{Room, Put, entriesIn, IsPlan}
-use Rattle.page.proofs.PutLaws.{Going, starts, starts-whole, room-left, goes-on, goes-in, ends}
+use Rattle.page.specs.Writing.{TextRoom, Put, entriesIn, IsPlan}
+use Rattle.page.proofs.PutLaws.{Putting, starts, starts-whole, room-left, goes-on, goes-in, ends}
 use Rattle.page.proofs.PlanLaws.{NextEntry, next-entry}
 
 abbrev pub entryPieces : Entry → List (List ℕ)
 entryPieces e = labelled (spelled "home ") (e .carrier) ∷ spelled ":" ∷ spaced wordText (e .words) ∷ spelled "\n" ∷ []
 
-pub entry-starts : (e : Entry) {from : ℕ} {page : List ℕ} → Room from (entryLine e) page → Going from (entryLine e) page (entryPieces e) page from
+pub entry-starts : (e : Entry) {from : ℕ} {page : List ℕ} → TextRoom from (entryLine e) page → Putting from (entryLine e) page (entryPieces e) page from
 unfolding entryLine
 entry-starts e room = starts (entryPieces e) room
 
@@ -32,10 +32,10 @@ pub record Planning (from : ℕ) (plan before page : List ℕ) (next k : ℕ) : 
   pub entries : List Entry
   pub left : drop k plan ≡ planWords entries
   pub inside : k ≤ length plan
-  pub going : Going from (entryLines (entriesIn plan)) before (entryLines entries ∷ []) page next
+  pub going : Putting from (entryLines (entriesIn plan)) before (entryLines entries ∷ []) page next
 
 module _ {from : ℕ} {plan before : List ℕ} where
-  pub planning-starts : IsPlan plan → Room from (entryLines (entriesIn plan)) before → Planning from plan before before from 0
+  pub planning-starts : IsPlan plan → TextRoom from (entryLines (entriesIn plan)) before → Planning from plan before before from 0
   planning-starts planned room = record { entries = entriesIn plan; left = sym planned; inside = omega arith; going = starts-whole room }
 
   module _ {page : List ℕ} {next k : ℕ} (p : Planning from plan before page next k) where
@@ -54,11 +54,11 @@ module _ {from : ℕ} {plan before : List ℕ} where
       same-entry : entryAt plan k ≡ found .entry
       same-entry = ap₂ {C = Entry} (λ (c : ℕ) (ws : List ℕ). record { carrier = c; words = ws }) (found .carrier) (found .words (k + 2 + getD plan (k + 1) 0 - (k + 2)) (omega (arith, found .count)))
 
-      turning : Going from (entryLines (entriesIn plan)) before (entryLine (found .entry) ∷ entryLines (found .rest) ∷ []) page next
+      turning : Putting from (entryLines (entriesIn plan)) before (entryLine (found .entry) ∷ entryLines (found .rest) ∷ []) page next
       unfolding entryLines
       turning = goes-in (entryLine (found .entry) ∷ entryLines (found .rest) ∷ []) (rw (found .split) at (p .going))
 
-      pub entry-room : Room next (entryLine (entryAt plan k)) page
+      pub entry-room : TextRoom next (entryLine (entryAt plan k)) page
       entry-room = rw same-entry (room-left turning)
 
       pub planning-again : {after : List ℕ} {place : ℕ} → Put next (entryLine (entryAt plan k)) page after place → Planning from plan before after place (k + 2 + getD plan (k + 1) 0)

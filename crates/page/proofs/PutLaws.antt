@@ -1,5 +1,5 @@
 -- Texts put one after another are one text put.
--- `Going` is the state between two puts, in a loop and in a row of calls alike: what is left to write, put at the next place, makes the whole.
+-- `Putting` is the state between two puts, in a loop and in a row of calls alike: what is left to write, put at the next place, makes the whole.
 use Prim.Native.Nat.{ℕ, _+_, _<_}
 use mathlib.Core.Path.{_≡_, refl, sym, ap, ap₂, _∙_}
 use mathlib.Core.List.{List, [], _∷_, _++_, append-assoc, append-nil}
@@ -7,14 +7,14 @@ use native.Mathlib.Numerals.{add-one}
 use native.Mathlib.Omega.{arith}
 use lib.ListN.{length, take, drop, set, length-append, length-drop, take-append-drop}
 use lib.Seq.{length-take-le, take-length, take-at, drop-at, drop-drop, set-split, paste}
-use Rattle.page.specs.Page.{inRow}
+use Rattle.page.specs.Page.{inSequence}
 use Rattle.model.specs.Lists.{overwrittenAt}
-use Rattle.page.specs.Writing.{Room, Put, Begins}
+use Rattle.page.specs.Writing.{TextRoom, Put, Begins}
 
 spread : (from : ℕ) (text page : List ℕ) → overwrittenAt from text page ≡ take from page ++ (text ++ drop (from + length text) page)
 spread from text page = refl
 
-module _ (from : ℕ) (text page : List ℕ) (room : Room from text page) where
+module _ (from : ℕ) (text page : List ℕ) (room : TextRoom from text page) where
   front : overwrittenAt from text page ≡ (take from page ++ text) ++ drop (from + length text) page
   front = sym (append-assoc (take from page) text (drop (from + length text) page))
 
@@ -54,7 +54,7 @@ pasted from text page =
 pub put-byte : (from : ℕ) (b : ℕ) (page : List ℕ) → from < length page → Put from (b ∷ []) page (set page from b) (from + 1)
 put-byte from b page h = record { written = rw add-one (set-split page from b h); place = refl }
 
-pub length-put : {from next : ℕ} {text before after : List ℕ} → Room from text before → Put from text before after next → length after ≡ length before
+pub length-put : {from next : ℕ} {text before after : List ℕ} → TextRoom from text before → Put from text before after next → length after ≡ length before
 length-put {from} {text = text} {before = before} room p = ap length (p .written) ∙ length-overwritten from text before room
 
 -- a text put from the first place on
@@ -63,37 +63,37 @@ begins {text = text} {before = before} p =
     let e : 0 + length text ≡ length text = omega arith in
     record { written = p .written ∙ ap (λ (n : ℕ). text ++ drop n before) e; bytes = p .place ∙ e }
 
-pub record Going (from : ℕ) (text before : List ℕ) (left : List (List ℕ)) (page : List ℕ) (next : ℕ) : Type 0 where
-  pub whole : overwrittenAt next (inRow left) page ≡ overwrittenAt from text before
-  pub end : next + length (inRow left) ≡ from + length text
+pub record Putting (from : ℕ) (text before : List ℕ) (left : List (List ℕ)) (page : List ℕ) (next : ℕ) : Type 0 where
+  pub whole : overwrittenAt next (inSequence left) page ≡ overwrittenAt from text before
+  pub end : next + length (inSequence left) ≡ from + length text
   pub long : length page ≡ length before
-  pub room : Room from text before
+  pub room : TextRoom from text before
 
-inRow-append : (l m : List (List ℕ)) → inRow (l ++ m) ≡ inRow l ++ inRow m
+inRow-append : (l m : List (List ℕ)) → inSequence (l ++ m) ≡ inSequence l ++ inSequence m
 inRow-append [] m = refl
 inRow-append (a ∷ l) m = rw (inRow-append l m, append-assoc)
 
-pub starts : {from : ℕ} {before : List ℕ} (l : List (List ℕ)) → Room from (inRow l) before → Going from (inRow l) before l before from
+pub starts : {from : ℕ} {before : List ℕ} (l : List (List ℕ)) → TextRoom from (inSequence l) before → Putting from (inSequence l) before l before from
 starts l room = record { whole = refl; end = refl; long = refl; room = room }
 
 module _ {from : ℕ} {text before : List ℕ} where
-  pub starts-whole : Room from text before → Going from text before (text ∷ []) before from
+  pub starts-whole : TextRoom from text before → Putting from text before (text ∷ []) before from
   starts-whole room = record { whole = rw append-nil; end = rw append-nil; long = refl; room = room }
 
-  pub room-left : {a page : List ℕ} {l : List (List ℕ)} {next : ℕ} → Going from text before (a ∷ l) page next → Room next a page
-  room-left {a} {l = l} g = let s = length-append a (inRow l) in omega arith
+  pub room-left : {a page : List ℕ} {l : List (List ℕ)} {next : ℕ} → Putting from text before (a ∷ l) page next → TextRoom next a page
+  room-left {a} {l = l} g = let s = length-append a (inSequence l) in omega arith
 
-  pub goes-on : {a page after : List ℕ} {l : List (List ℕ)} {next place : ℕ} → Going from text before (a ∷ l) page next → Put next a page after place → Going from text before l after place
+  pub goes-on : {a page after : List ℕ} {l : List (List ℕ)} {next place : ℕ} → Putting from text before (a ∷ l) page next → Put next a page after place → Putting from text before l after place
   goes-on {a} {page} {after} {l} {next} {place} g p = record {
-    whole = rw (p .written, p .place) (put-after next a page (room-left g) (inRow l) ∙ g .whole);
-    end = let s = length-append a (inRow l) in omega arith;
+    whole = rw (p .written, p .place) (put-after next a page (room-left g) (inSequence l) ∙ g .whole);
+    end = let s = length-append a (inSequence l) in omega arith;
     long = length-put (room-left g) p ∙ g .long;
     room = g .room;
   }
 
   -- a text that is itself a row of texts is put one by one
-  pub goes-in : {page : List ℕ} (l : List (List ℕ)) {m : List (List ℕ)} {next : ℕ} → Going from text before (inRow l ∷ m) page next → Going from text before (l ++ m) page next
+  pub goes-in : {page : List ℕ} (l : List (List ℕ)) {m : List (List ℕ)} {next : ℕ} → Putting from text before (inSequence l ∷ m) page next → Putting from text before (l ++ m) page next
   goes-in {page} l {m} {next} g = record { whole = rw (inRow-append l m) (g .whole); end = rw (inRow-append l m) (g .end); long = g .long; room = g .room }
 
-  pub ends : {page : List ℕ} {next : ℕ} → Going from text before [] page next → Put from text before page next
+  pub ends : {page : List ℕ} {next : ℕ} → Putting from text before [] page next → Put from text before page next
   ends {page} {next} g = record { written = sym (put-nothing next page) ∙ g .whole; place = let h = g .end in omega arith }

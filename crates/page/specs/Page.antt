@@ -7,6 +7,7 @@ use mathlib.Core.List.{List, [], _∷_, _++_}
 use mathlib.Core.Bool.{cond}
 use lib.ListN.{length}
 use lib.Dec.{ltb, eqb}
+use Rattle.model.specs.declared.Summary.{Summary}
 use Rattle.model.specs.Track.{Track, zoneOf, headingOf}
 use Rattle.model.specs.Position.{Position, outs}
 use Rattle.model.specs.Reading.{refusal, trackSaid, positionSaid}
@@ -19,42 +20,42 @@ spelled String.[] = []
 spelled (String._∷_ c s) = code c ∷ spelled s
 
 -- texts one after another
-abbrev pub inRow : List (List ℕ) → List ℕ
-inRow [] = []
-inRow (a ∷ l) = a ++ inRow l
+abbrev pub inSequence : List (List ℕ) → List ℕ
+inSequence [] = []
+inSequence (a ∷ l) = a ++ inSequence l
 
 -- the digits of n, the last of which is n % 10; k is more than there can be
-unfoldable pub digits : ℕ → ℕ → List ℕ
-digits zero n = []
-digits (suc k) n =
-    let longer = digits k (n / 10) ++ ((48 + n % 10) ∷ []) in
+unfoldable pub digitsOf : ℕ → ℕ → List ℕ
+digitsOf zero n = []
+digitsOf (suc k) n =
+    let longer = digitsOf k (n / 10) ++ ((48 + n % 10) ∷ []) in
     cond (ltb n 10) ((48 + n) ∷ []) longer
 
 -- n in decimal, with no leading zeros; 0 is `0`
 unfoldable pub decimal : ℕ → List ℕ
-decimal n = digits (suc n) n
+decimal n = digitsOf (suc n) n
 
 -- a number after a text
 abbrev pub labelled : List ℕ → ℕ → List ℕ
-labelled label n = inRow (label ∷ decimal n ∷ [])
+labelled label n = inSequence (label ∷ decimal n ∷ [])
 
 -- a zone with + for heading 0 and - for 1
 unfoldable pub wordText : ℕ → List ℕ
-wordText w = inRow (decimal (zoneOf w) ∷ cond (eqb (headingOf w) 0) (spelled "+") (spelled "-") ∷ [])
+wordText w = inSequence (decimal (zoneOf w) ∷ cond (eqb (headingOf w) 0) (spelled "+") (spelled "-") ∷ [])
 
 -- each after a space
 unfoldable pub spaced : (ℕ → List ℕ) → List ℕ → List ℕ
 spaced f [] = []
-spaced f (a ∷ l) = inRow (spelled " " ∷ f a ∷ spaced f l ∷ [])
+spaced f (a ∷ l) = inSequence (spelled " " ∷ f a ∷ spaced f l ∷ [])
 
 -- a carrier that goes home, with its route
 unfoldable pub entryLine : Entry → List ℕ
-entryLine e = inRow (labelled (spelled "home ") (e .carrier) ∷ spelled ":" ∷ spaced wordText (e .words) ∷ spelled "\n" ∷ [])
+entryLine e = inSequence (labelled (spelled "home ") (e .carrier) ∷ spelled ":" ∷ spaced wordText (e .words) ∷ spelled "\n" ∷ [])
 
 -- a line for each carrier in order of leaving
 unfoldable pub entryLines : List Entry → List ℕ
 entryLines [] = []
-entryLines (e ∷ es) = inRow (entryLine e ∷ entryLines es ∷ [])
+entryLines (e ∷ es) = inSequence (entryLine e ∷ entryLines es ∷ [])
 
 -- the blocked numbers, or `none`
 unfoldable pub blockedText : List ℕ → List ℕ
@@ -62,30 +63,30 @@ blockedText [] = spelled " none"
 blockedText (c ∷ cs) = spaced decimal (c ∷ cs)
 
 -- the first two lines: counts P, Z, C; the verdict
-unfoldable pub headLines : ℕ → ℕ → ℕ → ℕ → List ℕ
-headLines points zones out verdict =
-    inRow
-    (labelled (spelled "board ") points ∷
-    labelled (spelled " points ") zones ∷
-    labelled (spelled " zones ") out ∷
+unfoldable pub firstLines : Summary → ℕ → List ℕ
+firstLines summary verdict =
+    inSequence
+    (labelled (spelled "board ") (summary .points) ∷
+    labelled (spelled " points ") (summary .zones) ∷
+    labelled (spelled " zones ") (summary .out) ∷
     labelled (spelled " out\nverdict ") verdict ∷
     spelled "\n" ∷ [])
 
 -- the page of a board that is not turned back
-unfoldable pub keyPage : ℕ → ℕ → ℕ → ℕ → List Entry → List ℕ → List ℕ
-keyPage points zones out verdict es blocked =
-    inRow (headLines points zones out verdict ∷ entryLines es ∷ spelled "blocked" ∷ blockedText blocked ∷ spelled "\n" ∷ [])
+unfoldable pub keyPage : Summary → ℕ → List Entry → List ℕ → List ℕ
+keyPage summary verdict es blocked =
+    inSequence (firstLines summary verdict ∷ entryLines es ∷ spelled "blocked" ∷ blockedText blocked ∷ spelled "\n" ∷ [])
 
 -- the page of a board that is turned back with this number
 unfoldable pub refusedPage : ℕ → List ℕ
-refusedPage number = inRow (labelled (spelled "refused ") number ∷ spelled "\n" ∷ [])
+refusedPage number = inSequence (labelled (spelled "refused ") number ∷ spelled "\n" ∷ [])
 
 -- the page of a board of over 390 bytes
 abbrev pub tooLongPage : List ℕ
 tooLongPage = spelled "too long\n"
 
 unfoldable pub pageFor : Track → Position → List ℕ
-pageFor t p = keyPage (t .points) (t .zones) (length (outs p)) (verdictOf (named t p)) (run t p .plan) (named t p)
+pageFor t p = keyPage (record { points = t .points; zones = t .zones; out = length (outs p) }) (verdictOf (named t p)) (run t p .plan) (named t p)
 
 -- the page of a board in bytes
 unfoldable pub pageOf : List ℕ → List ℕ

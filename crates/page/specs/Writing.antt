@@ -2,17 +2,16 @@
 -- What the contracts cite besides the page itself.
 use Prim.Native.Nat.{ℕ, zero, suc, _+_, _≤_}
 use mathlib.Core.Path.{_≡_}
-use mathlib.Core.List.{List, [], _∷_, _++_}
-use mathlib.Core.Bool.{cond}
+use mathlib.Core.List.{List, [], _∷_}
 use lib.ListN.{length, take, drop}
-use lib.Dec.{leb}
+use Rattle.model.specs.declared.Summary.{Summary}
 use Rattle.model.specs.Lists.{overwritten, overwrittenAt}
 use Rattle.rules.specs.Routes.{Entry}
 use Rattle.rules.specs.Key.{planWords}
 use Rattle.page.specs.Page.{keyPage}
 
 -- the text fits in the page from this place on
-pub record Room (from : ℕ) (text page : List ℕ) : Type 0 where
+pub record TextRoom (from : ℕ) (text page : List ℕ) : Type 0 where
   pub fits : from + length text ≤ length page
 
 -- the text was put from this place on; next is the place after it
@@ -39,14 +38,9 @@ entriesIn ws = entriesOf (length ws) ws
 abbrev pub IsPlan : List ℕ → Type 0
 IsPlan ws = planWords (entriesIn ws) ≡ ws
 
--- what `write_key` is given: a plan in the first words, a list in the first numbers, and room for the page
-pub record Writable (points zones out verdict : ℕ) (plan : List ℕ) (words : ℕ) (list : List ℕ) (count : ℕ) (page : List ℕ) : Type 0 where
-  pub words-in : words ≤ length plan
-  pub count-in : count ≤ length list
-  pub planned : IsPlan (take words plan)
-  pub room : length (keyPage points zones out verdict (entriesIn (take words plan)) (take count list)) ≤ length page
-
--- the first n bytes of the page copied to out, where they fit; else nothing
-pub record CopiedOut (page : List ℕ) (n : ℕ) (before after : List ℕ) (r : ℕ) : Type 0 where
-  pub written : after ≡ cond (leb n (length before)) (take n page ++ drop n before) before
-  pub bytes : r ≡ cond (leb n (length before)) n 0
+-- what `write_key` is given: a plan in the first words, a list in the first carriers, and room for the page
+pub record Writable (summary : Summary) (verdict : ℕ) (plan : List ℕ) (planned : ℕ) (list : List ℕ) (listed : ℕ) (page : List ℕ) : Type 0 where
+  pub plan-in : planned ≤ length plan
+  pub list-in : listed ≤ length list
+  pub is-plan : IsPlan (take planned plan)
+  pub room : length (keyPage summary verdict (entriesIn (take planned plan)) (take listed list)) ≤ length page

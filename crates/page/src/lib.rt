@@ -1,38 +1,37 @@
 // The lines that `key` prints, written into a lent buffer.
 mod blocked;
-mod head;
+mod first_lines;
 mod plan;
 mod put;
 
 use crate::blocked::put_list;
-use crate::head::put_head;
+use crate::first_lines::put_first_lines;
 use crate::plan::put_plan;
 use crate::put::put_labelled;
 use crate::put::put_text;
+use model::Summary;
 ghost use Prim.Native.Nat.{_≤_};
 ghost use lib.ListN.{length, take};
 ghost use Rattle.page.specs.Page.{keyPage, refusedPage, tooLongPage};
-ghost use Rattle.page.specs.Writing.{entriesIn, Begins, Writable, CopiedOut};
+ghost use Rattle.page.specs.Writing.{entriesIn, Begins, Writable};
 
-// The page of a board that is not turned back. The first `words` words are the plan, the first `count` numbers the blocked list.
+// The page of a board that is not turned back. The first `planned` words are the plan, the first `listed` carriers the blocked list.
 pub fn write_key(
-    points: usize,
-    zones: usize,
-    out: usize,
+    summary: Summary,
     verdict: u32,
     plan: &[u16],
-    words: usize,
+    planned: usize,
     list: &[u8],
-    count: usize,
+    listed: usize,
     page: &mut [u8],
 ) -> usize
-    requires { ⌜ Writable points zones out verdict (now plan) words (now list) count (now page) ⌝ }
-    ensures { λ r. ⌜ Begins (keyPage points zones out verdict (entriesIn (take words (now (plan .entry)))) (take count (now (list .entry)))) (now (page .entry)) (now (page .exit)) r ⌝ }
+    requires { ⌜ Writable summary verdict (now plan) planned (now list) listed (now page) ⌝ }
+    ensures { λ r. ⌜ Begins (keyPage summary verdict (entriesIn (take planned (now (plan .entry)))) (take listed (now (list .entry)))) (now (page .entry)) (now (page .exit)) r ⌝ }
 {
-    let after_head = put_head(page, points, zones, out, verdict as usize);
-    let after_plan = put_plan(page, after_head, &plan[..words]);
+    let after_first = put_first_lines(page, summary, verdict as usize);
+    let after_plan = put_plan(page, after_first, &plan[..planned]);
     let after_blocked = put_text(page, after_plan, b"blocked");
-    let after_list = put_list(page, after_blocked, &list[..count]);
+    let after_list = put_list(page, after_blocked, &list[..listed]);
     put_text(page, after_list, b"\n")
 }
 
@@ -51,15 +50,4 @@ pub fn write_too_long(page: &mut [u8]) -> usize
     ensures { λ r. ⌜ Begins tooLongPage (now (page .entry)) (now (page .exit)) r ⌝ }
 {
     put_text(page, 0, b"too long\n")
-}
-
-// The first n bytes of a page to what the caller lent, where they fit; else nothing is written and the answer is 0.
-pub fn copy_page(page: &[u8], n: usize, out: &mut [u8]) -> usize
-    requires { ⌜ n ≤ length (now page) ⌝ }
-    ensures { λ r. ⌜ CopiedOut (now (page .entry)) n (now (out .entry)) (now (out .exit)) r ⌝ }
-{
-    if out.len() < n {
-        return 0;
-    }
-    put_text(out, 0, &page[..n])
 }

@@ -1,16 +1,16 @@
 // The lines of a plan: a carrier that goes home in each, and its route.
+use crate::put::put_decimal;
 use crate::put::put_labelled;
-use crate::put::put_number;
 use crate::put::put_text;
 ghost use Rattle.page.specs.Page.{wordText, spaced, entryLine, entryLines};
-ghost use Rattle.page.specs.Writing.{Room, Put, IsPlan, entriesIn};
+ghost use Rattle.page.specs.Writing.{TextRoom, Put, IsPlan, entriesIn};
 
 // A zone with + for heading 0 and - for 1.
 pub fn put_word(page: &mut [u8], at: usize, word: usize) -> usize
-    requires { ⌜ Room at (wordText word) (now page) ⌝ }
+    requires { ⌜ TextRoom at (wordText word) (now page) ⌝ }
     ensures { λ r. ⌜ Put at (wordText word) (now (page .entry)) (now (page .exit)) r ⌝ }
 {
-    let next = put_number(page, at, word / 2);
+    let next = put_decimal(page, at, word / 2);
     if word % 2 == 0 {
         page[next] = b'+';
         return next + 1;
@@ -21,7 +21,7 @@ pub fn put_word(page: &mut [u8], at: usize, word: usize) -> usize
 
 // Each word after a space.
 pub fn put_words(page: &mut [u8], at: usize, words: &[u16]) -> usize
-    requires { ⌜ Room at (spaced wordText (now words)) (now page) ⌝ }
+    requires { ⌜ TextRoom at (spaced wordText (now words)) (now page) ⌝ }
     ensures { λ r. ⌜ Put at (spaced wordText (now (words .entry))) (now (page .entry)) (now (page .exit)) r ⌝ }
 {
     let mut next = at;
@@ -36,7 +36,7 @@ pub fn put_words(page: &mut [u8], at: usize, words: &[u16]) -> usize
 
 // A line: the carrier, and its route.
 pub fn put_entry(page: &mut [u8], at: usize, carrier: usize, words: &[u16]) -> usize
-    requires { ⌜ Room at (entryLine (record { carrier = carrier; words = now words })) (now page) ⌝ }
+    requires { ⌜ TextRoom at (entryLine (record { carrier = carrier; words = now words })) (now page) ⌝ }
     ensures { λ r. ⌜ Put at (entryLine (record { carrier = carrier; words = now (words .entry) })) (now (page .entry)) (now (page .exit)) r ⌝ }
 {
     let after_carrier = put_labelled(page, at, b"home ", carrier);
@@ -48,7 +48,7 @@ pub fn put_entry(page: &mut [u8], at: usize, carrier: usize, words: &[u16]) -> u
 // For each carrier its number, the count of words, the words.
 pub fn put_plan(page: &mut [u8], at: usize, plan: &[u16]) -> usize
     requires { ⌜ IsPlan (now plan) ⌝ }
-    requires { ⌜ Room at (entryLines (entriesIn (now plan))) (now page) ⌝ }
+    requires { ⌜ TextRoom at (entryLines (entriesIn (now plan))) (now page) ⌝ }
     ensures { λ r. ⌜ Put at (entryLines (entriesIn (now (plan .entry)))) (now (page .entry)) (now (page .exit)) r ⌝ }
 {
     let mut next = at;

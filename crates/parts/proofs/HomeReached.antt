@@ -10,21 +10,21 @@ use borrow.Author.Tests.{eqb-true, eqb-false, ne-eqb, not-true}
 use lib.Dec.{eqb}
 use Rattle.model.specs.Track.{Track, zoneOf, headingOf, rev, start, leave}
 use Rattle.model.specs.Position.{Position, at, carrierOf, isFree, Stands, standing}
-use Rattle.model.specs.Accepted.{Parsed}
+use Rattle.model.specs.Accepted.{Laid}
 use Rattle.model.specs.Labels.{label}
 use Rattle.model.proofs.BoolLaws.{decided, and-left}
 use Rattle.model.proofs.WordLaws.{zone-rev, rev-below, zone-below, heading-rev, heading-small, word-parts, leave-rev}
 use Rattle.model.proofs.PositionLaws.{stands-heading, stands-held, laid-stands, stands-below}
 use Rattle.rules.specs.Collapse.{freeParts, loopIn, turns}
 use Rattle.bits.specs.Sets.{hasBit}
-use Rattle.points.specs.Ways.{Reach, Grown}
-use Rattle.points.specs.Ways.Reach.{here, on}
+use Rattle.reach.specs.Ways.{Reach, Grown}
+use Rattle.reach.specs.Ways.Reach.{here, on}
 use Rattle.parts.specs.Home.{Home, HomeWord}
 use Rattle.parts.specs.Home.Home.{itself, over-free, over-turning, behind}
-use Rattle.parts.specs.Ways.{goesOn, Over, Looped}
+use Rattle.parts.specs.Ways.{goesOn, WaysOn, Looped}
 use Rattle.parts.proofs.OneWord.{goes-over-free, goes-back, goes-by-set}
 
-module _ {t : Track} {p : Position} (parsed : Parsed t p) {s : ℕ} (looped : Looped (t .points) (t .zones) (t .ends) p s) where
+module _ {t : Track} {p : Position} (laid : Laid t p) {s : ℕ} (looped : Looped t p s) where
   abbrev goes : ℕ → Bool
   goes = goesOn (t .ends) p true s
 
@@ -33,7 +33,7 @@ module _ {t : Track} {p : Position} (parsed : Parsed t p) {s : ℕ} (looped : Lo
   unfolding turns
   turns-by-set z h held =
       ap (λ (b : Bool). not b && loopIn t p (freeParts t p) (label (freeParts t p) (leave t (standing p z)))) (ne-eqb (at p z) 0 held)
-      ∙ sym (looped .exact (t .home) (leave t (standing p z)) (parsed .laid .inside (rev (standing p z)) (omega arith)))
+      ∙ sym (looped .exact (leave t (standing p z)) (laid .inside (rev (standing p z)) (omega arith)))
 
   turning-held : (z : ℕ) → turns t p (freeParts t p) z ≡ true → at p z ≡ 0 → ⊥
   unfolding turns
@@ -59,7 +59,7 @@ module _ {t : Track} {p : Position} (parsed : Parsed t p) {s : ℕ} (looped : Lo
             let other : standing p (zoneOf w) ≡ rev w = omega (arith, word-parts w, eqb-false (headingOf w) (headingOf (at p (zoneOf w))) e) in
             behind (carrierOf (at p (zoneOf w))) (rev w)
             (subst (λ (v : ℕ). Stands p (carrierOf (at p (zoneOf w))) v) other
-            (laid-stands t p (parsed .laid) (zoneOf w) (zone-below (t .zones) w h) (ne-eqb (at p (zoneOf w)) 0 held)))
+            (laid-stands t p laid (zoneOf w) (zone-below (t .zones) w h) (ne-eqb (at p (zoneOf w)) 0 held)))
             (subst (Home t p) (sym (leave-rev t w)) i)
 
         by-zone : (isFree p (zoneOf w) ≡ true) ⊎ (isFree p (zoneOf w) ≡ false) → Home t p (leave t w)
@@ -90,7 +90,7 @@ module _ {t : Track} {p : Position} (parsed : Parsed t p) {s : ℕ} (looped : Lo
       let same : 1 - headingOf w ≡ headingOf w = sym (heading-rev w) ∙ e ∙ ap (λ (z : ℕ). headingOf (at p z)) (zone-rev w) ∙ stands-heading st in
       omega (arith, heading-small w))
 
-  module _ {ways : List ℕ} (o : Over (t .ends) goes (2 * t .zones) ways) where
+  module _ {ways : List ℕ} (o : WaysOn (t .ends) goes (2 * t .zones) ways) where
     reach-home : {q : ℕ} → Reach ways (t .home) q → Home t p q
     reach-home here = itself
     reach-home (on {q = a} {r = b} k e) =
@@ -103,7 +103,7 @@ module _ {t : Track} {p : Position} (parsed : Parsed t p) {s : ℕ} (looped : Lo
     home-reach (over-turning w h e i) = on (home-reach i) (o .whole w h (turning-goes w h e))
     home-reach (behind c w st i) =
         subst (Reach ways (t .home)) (leave-rev t w)
-        (on (home-reach i) (o .whole (rev w) (rev-below (t .zones) w (stands-below t p (parsed .laid) st)) (behind-goes st)))
+        (on (home-reach i) (o .whole (rev w) (rev-below (t .zones) w (stands-below t p laid st)) (behind-goes st)))
 
     pub grown-home : {r : ℕ} → Grown ways (t .home) r → HomeWord t p r
     grown-home g = record { word = g .word; sound = λ q e. reach-home (g .sound q e); whole = λ q i. g .whole q (home-reach i) }

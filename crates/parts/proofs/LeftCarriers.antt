@@ -9,7 +9,7 @@ use native.Mathlib.Omega.{arith}
 use borrow.Author.Tests.{eqb-true, eqb-false, ne-eqb, ltb-true, ltb-false}
 use lib.ListN.{length, List·getD-eq-default}
 use lib.Dec.{eqb, ltb}
-use Rattle.model.specs.Lists.{below, consIf, keep, ascending}
+use Rattle.model.specs.Lists.{numbersBelow, consIf, keep, ascending}
 use Rattle.model.specs.Track.{Track}
 use Rattle.model.specs.Position.{Position, at, carrierOf, isFree, outs}
 use Rattle.model.specs.Accepted.{Laid}
@@ -75,4 +75,4 @@ module _ {t : Track} {p : Position} (laid : Laid t p) (s : ℕ) where
 
   pub outs-left : HomeWord t p s → outs (leftPosition (t .ends) s p) ≡ left t p
   unfolding leftPosition
-  outs-left home = ap ascending (kept (below (length p))) ∙ ap (λ (n : ℕ). ascending (map held-by (keep outside (below n)))) (laid .each) ∙ sym (left-by-test laid (hasBit s) (word-least home))
+  outs-left home = ap ascending (kept (numbersBelow (length p))) ∙ ap (λ (n : ℕ). ascending (map held-by (keep outside (numbersBelow n)))) (laid .each) ∙ sym (left-by-test laid (hasBit s) (word-least home))

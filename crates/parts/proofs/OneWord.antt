@@ -22,7 +22,7 @@ module _ (ends : List ℕ) (p : Position) (m : Bool) (s w : ℕ) where
   goes-over-free e = ap (λ (b : Bool). b || (m && (not (eqb (headingOf w) (headingOf (at p (zoneOf w)))) || hasBit s (endOf ends w)))) (eq-eqb (at p (zoneOf w)) 0 e)
 
   module _ (held : at p (zoneOf w) ≡ 0 → ⊥) where
-    pub goes-held : goesOn ends p m s w ≡ (m && (not (eqb (headingOf w) (headingOf (at p (zoneOf w)))) || hasBit s (endOf ends w)))
+    goes-held : goesOn ends p m s w ≡ (m && (not (eqb (headingOf w) (headingOf (at p (zoneOf w)))) || hasBit s (endOf ends w)))
     unfolding goesOn
     goes-held = ap (λ (b : Bool). b || (m && (not (eqb (headingOf w) (headingOf (at p (zoneOf w)))) || hasBit s (endOf ends w)))) (ne-eqb (at p (zoneOf w)) 0 held)
 

@@ -11,15 +11,15 @@ use lib.ListN.{getD, set, replicate, length-set, length-replicate}
 use lib.Seq.{getD-set-same, getD-set-other}
 use lib.Dec.{eqb, ltb}
 use lib.Count.{ones}
-use Rattle.model.specs.Lists.{below, consIf, keep, count}
+use Rattle.model.specs.Lists.{numbersBelow, consIf, keep, howMany}
 use Rattle.model.specs.Position.{Position, isFree}
-use Rattle.model.proofs.ListLaws.{below-suc, mem-below, mem-keep, keep-append, keep-none, keep-lowest, count-ext, count-none, getD-zeros}
-use Rattle.model.proofs.CountLaws.{count-below, count-below-ext, count-below-pass, count-below-skip, count-either}
-use Rattle.bits.specs.Sets.{hasBit, less, Lowest}
-use Rattle.bits.proofs.BitLaws.{bit-none, less-gone, less-word, alone-there, alone-word}
+use Rattle.model.proofs.ListLaws.{below-suc, mem-below, mem-keep, keep-append, keep-none, keep-lowest, how-many-ext, how-many-none, getD-zeros}
+use Rattle.model.proofs.CountLaws.{how-many-below, how-many-below-ext, how-many-below-pass, how-many-below-skip, how-many-either}
+use Rattle.bits.specs.Sets.{hasBit, setMinus, Lowest}
+use Rattle.bits.proofs.BitLaws.{bit-none, minus-gone, minus-word, alone-there, alone-word}
 use Rattle.bits.proofs.SizeLaws.{size-fewer}
 use Rattle.bits.proofs.LowestLaws.{others-stay}
-use Rattle.parts.specs.Ways.{Sized, StartCounts, sum, countIn}
+use Rattle.parts.specs.Ways.{EndsAmong, StartCounts, sumOver, countIn}
 
 -- the counts, one zone more at a time
 
@@ -35,8 +35,8 @@ starts-none ends p = record {
 
 module _ {z : ℕ} {ends : List ℕ} {p : Position} {counts : List ℕ} (s : StartCounts z ends p counts) where
   -- a zone that does not count
-  same : {q n : ℕ} → q < 64 → starts ends p q z ≡ false → n ≡ getD counts q 0 → n ≡ count (starts ends p q) (below (z + 1))
-  same {q} h e k = k ∙ s .each q h ∙ sym (count-below-skip (starts ends p q) z e) ∙ ap (λ (x : ℕ). count (starts ends p q) (below x)) (sym (add-one z))
+  same : {q n : ℕ} → q < 64 → starts ends p q z ≡ false → n ≡ getD counts q 0 → n ≡ howMany (starts ends p q) (numbersBelow (z + 1))
+  same {q} h e k = k ∙ s .each q h ∙ sym (how-many-below-skip (starts ends p q) z e) ∙ ap (λ (x : ℕ). howMany (starts ends p q) (numbersBelow x)) (sym (add-one z))
 
   -- a held zone
   pub starts-held : isFree p z ≡ false → StartCounts (z + 1) ends p counts
@@ -56,11 +56,11 @@ module _ {z : ℕ} {ends : List ℕ} {p : Position} {counts : List ℕ} (s : Sta
     test : (q : ℕ) (t : Bool) → eqb point q ≡ t → starts ends p q z ≡ t
     test q t e = ap (λ (b : Bool). b && eqb point q) free ∙ e
 
-    counted : (q : ℕ) → q < 64 → (t : Bool) → eqb point q ≡ t → getD one-more q 0 ≡ count (starts ends p q) (below (z + 1))
+    counted : (q : ℕ) → q < 64 → (t : Bool) → eqb point q ≡ t → getD one-more q 0 ≡ howMany (starts ends p q) (numbersBelow (z + 1))
     counted q h true e =
         ap (λ (x : ℕ). getD one-more x 0) (sym (eqb-true point q e)) ∙ getD-set-same counts point (getD counts point 0 + 1) 0 (omega (arith, s .long))
         ∙ ap (λ (x : ℕ). getD counts x 0 + 1) (eqb-true point q e) ∙ ap (λ (x : ℕ). x + 1) (s .each q h)
-        ∙ sym (count-below-pass (starts ends p q) z (test q true e)) ∙ ap (λ (x : ℕ). count (starts ends p q) (below x)) (sym (add-one z))
+        ∙ sym (how-many-below-pass (starts ends p q) z (test q true e)) ∙ ap (λ (x : ℕ). howMany (starts ends p q) (numbersBelow x)) (sym (add-one z))
     counted q h false e = same h (test q false e) (getD-set-other counts point q (getD counts point 0 + 1) 0 (λ d. eqb-false point q e (sym d)))
 
     pub starts-free : StartCounts (z + 1) ends p one-more
@@ -71,15 +71,15 @@ module _ {z : ℕ} {ends : List ℕ} {p : Position} {counts : List ℕ} (s : Sta
 
   -- a count is at most the number of zones
   pub starts-most : {q : ℕ} → q < 64 → getD counts q 0 ≤ z
-  starts-most {q} h = omega (arith, s .each q h, count-below (starts ends p q) z)
+  starts-most {q} h = omega (arith, s .each q h, how-many-below (starts ends p q) z)
 
 -- sums over lists
 
-sum-append : (f : ℕ → ℕ) (l m : List ℕ) → sum f (l ++ m) ≡ sum f l + sum f m
+sum-append : (f : ℕ → ℕ) (l m : List ℕ) → sumOver f (l ++ m) ≡ sumOver f l + sumOver f m
 sum-append f [] m = omega arith
-sum-append f (a ∷ l) m = let rest : sum f (l ++ m) ≡ sum f l + sum f m = sum-append f l m in omega arith
+sum-append f (a ∷ l) m = let rest : sumOver f (l ++ m) ≡ sumOver f l + sumOver f m = sum-append f l m in omega arith
 
-sum-ext : (f g : ℕ → ℕ) (l : List ℕ) → ((x : ℕ) → List·Memᴰ x l → f x ≡ g x) → sum f l ≡ sum g l
+sum-ext : (f g : ℕ → ℕ) (l : List ℕ) → ((x : ℕ) → List·Memᴰ x l → f x ≡ g x) → sumOver f l ≡ sumOver g l
 sum-ext f g [] h = refl
 sum-ext f g (a ∷ l) h = ap₂ (λ (x y : ℕ). x + y) (h a (List·Memᴰ·head refl)) (sum-ext f g l (λ x m. h x (List·Memᴰ·tail m)))
 
@@ -115,67 +115,67 @@ at-most x n = go (ltb x n) refl (eqb x n) refl
 module _ (free : ℕ → Bool) (end : ℕ → ℕ) (zs : List ℕ) (f : ℕ → Bool) where
   -- how many free zones start at a point
   abbrev at-point : ℕ → ℕ
-  at-point q = count (λ z. free z && eqb (end z) q) zs
+  at-point q = howMany (λ z. free z && eqb (end z) q) zs
 
   -- a zone is free and starts at a point below n that passes
   abbrev at-below : ℕ → ℕ → Bool
   at-below n z = free z && (f (end z) && ltb (end z) n)
 
-  sum-below : (n : ℕ) → sum at-point (keep f (below n)) ≡ count (at-below n) zs
+  sum-below : (n : ℕ) → sumOver at-point (keep f (numbersBelow n)) ≡ howMany (at-below n) zs
   sum-below zero =
-      sym (count-none (at-below 0) zs (λ z m.
+      sym (how-many-none (at-below 0) zs (λ z m.
       ap (λ (b : Bool). free z && (f (end z) && b)) (le-ltb (end z) 0 (omega arith)) ∙ ap (λ (b : Bool). free z && b) (and-false (f (end z))) ∙ and-false (free z)))
   sum-below (suc n) =
-      ap (λ (l : List ℕ). sum at-point (keep f l)) (below-suc n) ∙ ap (sum at-point) (keep-append f (below n) (n ∷ []))
-      ∙ sum-append at-point (keep f (below n)) (keep f (n ∷ [])) ∙ go (f n) refl (sum-below n)
+      ap (λ (l : List ℕ). sumOver at-point (keep f l)) (below-suc n) ∙ ap (sumOver at-point) (keep-append f (numbersBelow n) (n ∷ []))
+      ∙ sum-append at-point (keep f (numbersBelow n)) (keep f (n ∷ [])) ∙ go (f n) refl (sum-below n)
     where
       split : (z : ℕ) → at-below (suc n) z ≡ (free z && (f (end z) && (ltb (end z) n || eqb (end z) n)))
       split z = ap (λ (b : Bool). free z && (f (end z) && b)) (at-most (end z) n)
 
-      go : (t : Bool) → f n ≡ t → sum at-point (keep f (below n)) ≡ count (at-below n) zs
-          → sum at-point (keep f (below n)) + sum at-point (consIf t n []) ≡ count (at-below (suc n)) zs
+      go : (t : Bool) → f n ≡ t → sumOver at-point (keep f (numbersBelow n)) ≡ howMany (at-below n) zs
+          → sumOver at-point (keep f (numbersBelow n)) + sumOver at-point (consIf t n []) ≡ howMany (at-below (suc n)) zs
       go true e ih =
-          let more : count (at-below (suc n)) zs ≡ count (at-below n) zs + at-point n =
-          count-ext (at-below (suc n)) (λ z. at-below n z || (free z && eqb (end z) n)) zs
+          let more : howMany (at-below (suc n)) zs ≡ howMany (at-below n) zs + at-point n =
+          how-many-ext (at-below (suc n)) (λ z. at-below n z || (free z && eqb (end z) n)) zs
           (λ z m. split z ∙ both (free z) (f (end z)) (ltb (end z) n) (eqb (end z) n) (λ d. ap f (eqb-true (end z) n d) ∙ e))
-          ∙ count-either (at-below n) (λ z. free z && eqb (end z) n) zs
+          ∙ how-many-either (at-below n) (λ z. free z && eqb (end z) n) zs
           (λ z. apart (free z) (f (end z)) (ltb (end z) n) (eqb (end z) n) (λ d. ne-eqb (end z) n (λ k. omega (arith, ltb-true (end z) n d)))) in
           omega arith
       go false e ih =
-          let same : count (at-below (suc n)) zs ≡ count (at-below n) zs =
-          count-ext (at-below (suc n)) (at-below n) zs
+          let same : howMany (at-below (suc n)) zs ≡ howMany (at-below n) zs =
+          how-many-ext (at-below (suc n)) (at-below n) zs
           (λ z m. split z ∙ neither (free z) (f (end z)) (ltb (end z) n) (eqb (end z) n) (λ d. ap f (eqb-true (end z) n d) ∙ e)) in
           omega arith
 
 -- the sum of a part's counts is how many free zones start in it
-module _ {points zones : ℕ} {ends : List ℕ} {p : Position} (sized : Sized points zones ends p) {counts : List ℕ} (s : StartCounts zones ends p counts) (part : ℕ) where
-  pub count-in : countIn counts part ≡ count (λ z. isFree p z && hasBit part (getD ends (2 * z) 0)) (below zones)
+module _ {points zones : ℕ} {ends : List ℕ} {p : Position} (among : EndsAmong points zones ends p) {counts : List ℕ} (s : StartCounts zones ends p counts) (part : ℕ) where
+  pub count-in : countIn counts part ≡ howMany (λ z. isFree p z && hasBit part (getD ends (2 * z) 0)) (numbersBelow zones)
   unfolding countIn
   count-in =
-      sum-ext (λ q. getD counts q 0) (λ q. count (starts ends p q) (below zones)) (keep (hasBit part) (below 64))
-      (λ q m. s .each q (mem-below 64 (mem-keep (hasBit part) (below 64) m .0)))
-      ∙ sum-below (isFree p) (λ z. getD ends (2 * z) 0) (below zones) (hasBit part) 64
-      ∙ count-below-ext (λ z. isFree p z && (hasBit part (getD ends (2 * z) 0) && ltb (getD ends (2 * z) 0) 64)) (λ z. isFree p z && hasBit part (getD ends (2 * z) 0)) zones
-      (λ z l. let i : getD ends (2 * z) 0 < points = sized .inside (2 * z) (omega arith) in
-      ap (λ (b : Bool). isFree p z && (hasBit part (getD ends (2 * z) 0) && b)) (lt-ltb (getD ends (2 * z) 0) 64 (omega (arith, sized .few)))
+      sum-ext (λ q. getD counts q 0) (λ q. howMany (starts ends p q) (numbersBelow zones)) (keep (hasBit part) (numbersBelow 64))
+      (λ q m. s .each q (mem-below 64 (mem-keep (hasBit part) (numbersBelow 64) m .0)))
+      ∙ sum-below (isFree p) (λ z. getD ends (2 * z) 0) (numbersBelow zones) (hasBit part) 64
+      ∙ how-many-below-ext (λ z. isFree p z && (hasBit part (getD ends (2 * z) 0) && ltb (getD ends (2 * z) 0) 64)) (λ z. isFree p z && hasBit part (getD ends (2 * z) 0)) zones
+      (λ z l. let i : getD ends (2 * z) 0 < points = among .inside (2 * z) (omega arith) in
+      ap (λ (b : Bool). isFree p z && (hasBit part (getD ends (2 * z) 0) && b)) (lt-ltb (getD ends (2 * z) 0) 64 (omega (arith, among .few)))
       ∙ ap (λ (b : Bool). isFree p z && b) (and-true (hasBit part (getD ends (2 * z) 0))))
 
   -- and at most the number of zones
   pub count-in-most : countIn counts part ≤ zones
-  count-in-most = omega (arith, count-in, count-below (λ z. isFree p z && hasBit part (getD ends (2 * z) 0)) zones)
+  count-in-most = omega (arith, count-in, how-many-below (λ z. isFree p z && hasBit part (getD ends (2 * z) 0)) zones)
 
 -- the sum, one point less at a time
 
-count-in-lowest : (counts : List ℕ) (rest low : ℕ) → rest < 2 ^ 64 → Lowest rest low → countIn counts rest ≡ getD counts low 0 + countIn counts (less rest (2 ^ low))
+count-in-lowest : (counts : List ℕ) (rest low : ℕ) → rest < 2 ^ 64 → Lowest rest low → countIn counts rest ≡ getD counts low 0 + countIn counts (setMinus rest (2 ^ low))
 unfolding countIn
 count-in-lowest counts rest low h l =
-    ap (sum (λ q. getD counts q 0))
-    (keep-lowest (hasBit rest) (hasBit (less rest (2 ^ low))) 0 64 low (omega arith) (omega (arith, l .inside)) (l .there)
-    (less-gone rest (2 ^ low) low h (alone-word low (l .inside)) (alone-there low)) (λ j a b. l .least j b) (λ j a d. others-stay rest low h l j d))
+    ap (sumOver (λ q. getD counts q 0))
+    (keep-lowest (hasBit rest) (hasBit (setMinus rest (2 ^ low))) 0 64 low (omega arith) (omega (arith, l .inside)) (l .there)
+    (minus-gone rest (2 ^ low) low h (alone-word low (l .inside)) (alone-there low)) (λ j a b. l .least j b) (λ j a d. others-stay rest low h l j d))
 
 count-in-none : (counts : List ℕ) → countIn counts 0 ≡ 0
 unfolding countIn
-count-in-none counts = ap (sum (λ q. getD counts q 0)) (keep-none (hasBit 0) (below 64) (λ q m. bit-none q))
+count-in-none counts = ap (sumOver (λ q. getD counts q 0)) (keep-none (hasBit 0) (numbersBelow 64) (λ q m. bit-none q))
 
 -- the counts of a part's points are added to n, up to those of `rest`
 pub record Adding (counts : List ℕ) (part n rest : ℕ) : Type 0 where
@@ -190,13 +190,13 @@ module _ {counts : List ℕ} {part n rest : ℕ} (a : Adding counts part n rest)
     pub adding-most : n + getD counts low 0 ≤ countIn counts part
     adding-most = omega (arith, a .whole, count-in-lowest counts rest low (a .word) l)
 
-    pub adding-more : Adding counts part (n + getD counts low 0) (less rest (2 ^ low))
+    pub adding-more : Adding counts part (n + getD counts low 0) (setMinus rest (2 ^ low))
     adding-more = record {
-      word = less-word rest (2 ^ low) (a .word);
+      word = minus-word rest (2 ^ low) (a .word);
       whole = omega (arith, a .whole, count-in-lowest counts rest low (a .word) l);
     }
 
-    pub adding-fewer : ones (less rest (2 ^ low)) < ones rest
+    pub adding-fewer : ones (setMinus rest (2 ^ low)) < ones rest
     adding-fewer = omega (arith, size-fewer rest low (a .word) (l .there))
 
   pub adding-done : rest ≡ 0 → n ≡ countIn counts part

@@ -8,13 +8,13 @@ use mathlib.Core.Bool.{Bool, true, false, cond}
 use native.Mathlib.Omega.{arith}
 use lib.ListN.{length, getD, set, length-set, length-map}
 use lib.Seq.{getD-set-same, getD-set-other, ext-getD}
-use Rattle.model.specs.Lists.{below}
+use Rattle.model.specs.Lists.{numbersBelow}
 use Rattle.model.specs.Track.{headingOf, rev}
 use Rattle.model.specs.Position.{Position, at}
 use Rattle.model.proofs.ListLaws.{length-below}
 use Rattle.model.proofs.PlaceLaws.{getD-map-below}
 use Rattle.bits.specs.Sets.{hasBit}
-use Rattle.points.proofs.OverLaws.{last}
+use Rattle.reach.proofs.OverLaws.{last}
 use Rattle.parts.specs.Home.{leavesAt, leftPosition}
 
 -- what the collapse leaves in a zone
@@ -23,7 +23,7 @@ leftAt ends s p z = cond (hasBit s (leavesAt ends p z)) 0 (at p z)
 
 pub length-left : (ends : List ℕ) (s : ℕ) (p : Position) → length (leftPosition ends s p) ≡ length p
 unfolding leftPosition
-length-left ends s p = length-map (below (length p)) (leftAt ends s p) ∙ length-below (length p)
+length-left ends s p = length-map (numbersBelow (length p)) (leftAt ends s p) ∙ length-below (length p)
 
 pub at-left : (ends : List ℕ) (s : ℕ) (p : Position) (z : ℕ) → z < length p → at (leftPosition ends s p) z ≡ leftAt ends s p z
 unfolding leftPosition

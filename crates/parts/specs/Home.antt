@@ -5,7 +5,7 @@ use mathlib.Core.List.{List, map}
 use mathlib.Core.Path.{_≡_}
 use mathlib.Core.Bool.{true, cond}
 use lib.ListN.{length, getD}
-use Rattle.model.specs.Lists.{below}
+use Rattle.model.specs.Lists.{numbersBelow}
 use Rattle.model.specs.Track.{Track, zoneOf, rev, start, leave}
 use Rattle.model.specs.Position.{Position, at, isFree, Stands, outs, standing}
 use Rattle.rules.specs.Collapse.{freeParts, turns, left}
@@ -31,7 +31,7 @@ leavesAt ends p z = getD ends (rev (standing p z)) 0
 
 -- the zones whose carriers leave at a point of s are free, and the others as they were
 unfoldable pub leftPosition : List ℕ → ℕ → Position → Position
-leftPosition ends s p = map (λ z. cond (hasBit s (leavesAt ends p z)) 0 (at p z)) (below (length p))
+leftPosition ends s p = map (λ z. cond (hasBit s (leavesAt ends p z)) 0 (at p z)) (numbersBelow (length p))
 
 -- q is p without the carriers that leave in home's set, and those still out in q are the carriers that the collapse leaves of p
 pub record Collapsed (t : Track) (p q : Position) : Type 0 where

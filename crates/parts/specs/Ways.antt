@@ -6,17 +6,17 @@ use mathlib.Core.Path.{_≡_}
 use mathlib.Core.Bool.{Bool, not, _&&_, _||_}
 use lib.ListN.{length, getD}
 use lib.Dec.{eqb}
-use Rattle.model.specs.Lists.{below, keep, count}
-use Rattle.model.specs.Track.{trackOf, zoneOf, headingOf, rev}
+use Rattle.model.specs.Lists.{numbersBelow, keep, howMany}
+use Rattle.model.specs.Track.{Track, zoneOf, headingOf, rev}
 use Rattle.model.specs.Position.{Position, at, isFree}
 use Rattle.model.specs.Labels.{label}
 use Rattle.rules.specs.Collapse.{freeParts, loopIn}
 use Rattle.bits.specs.Sets.{hasBit}
-use Rattle.points.specs.Ways.{Over as Ways·Over}
+use Rattle.reach.specs.Ways.{WaysOver}
 
 -- two ends for each zone, each of them one of so many points
-pub record Sized (points zones : ℕ) (ends : List ℕ) (p : Position) : Type 0 where
-  pub some : 0 < points
+pub record EndsAmong (points zones : ℕ) (ends : List ℕ) (p : Position) : Type 0 where
+  pub positive : 0 < points
   pub few : points ≤ 64
   pub each : length p ≡ zones
   pub ends-count : length ends ≡ 2 * zones
@@ -31,25 +31,24 @@ unfoldable pub goesOn : List ℕ → Position → Bool → ℕ → ℕ → Bool
 goesOn ends p merging s w = isFree p (zoneOf w) || (merging && (not (eqb (headingOf w) (headingOf (at p (zoneOf w)))) || hasBit s (endOf ends w)))
 
 -- the ways over the words below n that a set goes on over
-abbrev pub Over : List ℕ → (ℕ → Bool) → ℕ → List ℕ → Type 0
-Over ends goes n ways = Ways·Over (λ w. getD ends w 0) (endOf ends) goes n ways
+abbrev pub WaysOn : List ℕ → (ℕ → Bool) → ℕ → List ℕ → Type 0
+WaysOn ends goes n ways = WaysOver (λ w. getD ends w 0) (endOf ends) goes n ways
 
 -- how many free zones below `zones` have their end A at each point
 pub record StartCounts (zones : ℕ) (ends : List ℕ) (p : Position) (counts : List ℕ) : Type 0 where
   pub long : length counts ≡ 64
-  pub each : (q : ℕ) → q < 64 → getD counts q 0 ≡ count (λ z. isFree p z && eqb (getD ends (2 * z) 0) q) (below zones)
+  pub each : (q : ℕ) → q < 64 → getD counts q 0 ≡ howMany (λ z. isFree p z && eqb (getD ends (2 * z) 0) q) (numbersBelow zones)
 
 -- the sum of a function over a list
-abbrev pub sum : (ℕ → ℕ) → List ℕ → ℕ
-sum f [] = 0
-sum f (a ∷ l) = f a + sum f l
+abbrev pub sumOver : (ℕ → ℕ) → List ℕ → ℕ
+sumOver f [] = 0
+sumOver f (a ∷ l) = f a + sumOver f l
 
 -- the sum of the counts of a part's points
 unfoldable pub countIn : List ℕ → ℕ → ℕ
-countIn counts part = sum (λ q. getD counts q 0) (keep (hasBit part) (below 64))
+countIn counts part = sumOver (λ q. getD counts q 0) (keep (hasBit part) (numbersBelow 64))
 
--- the set of the points whose free part holds a loop, wherever home is
-pub record Looped (points zones : ℕ) (ends : List ℕ) (p : Position) (s : ℕ) : Type 0 where
+-- the set of the points whose free part holds a loop
+pub record Looped (t : Track) (p : Position) (s : ℕ) : Type 0 where
   pub word : s < 2 ^ 64
-  pub exact : (home q : ℕ) → q < points
-      → let t = trackOf points home zones ends in let ls = freeParts t p in hasBit s q ≡ loopIn t p ls (label ls q)
+  pub exact : (q : ℕ) → q < t .points → let ls = freeParts t p in hasBit s q ≡ loopIn t p ls (label ls q)

@@ -1,17 +1,18 @@
 // The collapse of a position on sets of points: the parts over free zones, those with a loop, home's set after joining and merging,
 // and the carriers that the collapse leaves.
+use model::Head;
 ghost use mathlib.Core.Path.{_≡_};
 ghost use Prim.Native.Nat.{_^_, _<_};
 ghost use lib.ListN.{length, replicate};
 ghost use Rattle.model.specs.Track.{trackOf};
-ghost use Rattle.model.specs.Accepted.{Parsed};
+ghost use Rattle.model.specs.Accepted.{Bounded};
 ghost use Rattle.parts.specs.Home.{HomeWord, leftPosition, Collapsed};
-ghost use Rattle.parts.specs.Ways.{Sized, goesOn, Over, StartCounts, countIn, Looped};
+ghost use Rattle.parts.specs.Ways.{EndsAmong, goesOn, WaysOn, StartCounts, countIn, Looped};
 
 // Whether a set of points goes on over word w: its zone is free; or, in merging, its carrier heads the other way, or leaves at a point
 // of a part with a loop.
 fn goes_on(ends: &[usize], position: &[u32], merging: bool, looped: u64, w: usize) -> bool
-    requires { ⌜ Sized 64 (length (now position)) (now ends) (now position) × (w < length (now ends)) ⌝ }
+    requires { ⌜ EndsAmong 64 (length (now position)) (now ends) (now position) × (w < length (now ends)) ⌝ }
     ensures { λ r. ⌜ r ≡ goesOn (now (ends .entry)) (now (position .entry)) merging looped w ⌝ }
 {
     let v = position[w / 2];
@@ -24,19 +25,19 @@ fn goes_on(ends: &[usize], position: &[u32], merging: bool, looped: u64, w: usiz
     if w % 2 != (v % 2) as usize {
         return true;
     }
-    bits::has(looped, words::leaving(ends, w))
+    bits::has(looped, word::leaving(ends, w))
 }
 
 // The ways over all words that a set goes on over.
 fn add_ways(ends: &[usize], position: &[u32], merging: bool, looped: u64, ways: &mut [u64])
-    requires { ⌜ Sized 64 (length (now position)) (now ends) (now position) × (now ways ≡ replicate 64 0) ⌝ }
-    ensures { λ r. ⌜ Over (now (ends .entry)) (goesOn (now (ends .entry)) (now (position .entry)) merging looped) (length (now (ends .entry))) (now (ways .exit)) ⌝ }
+    requires { ⌜ EndsAmong 64 (length (now position)) (now ends) (now position) × (now ways ≡ replicate 64 0) ⌝ }
+    ensures { λ r. ⌜ WaysOn (now (ends .entry)) (goesOn (now (ends .entry)) (now (position .entry)) merging looped) (length (now (ends .entry))) (now (ways .exit)) ⌝ }
 {
     let mut w = 0;
     while w < ends.len() {
         if goes_on(ends, position, merging, looped, w) {
-            let q = words::leaving(ends, w);
-            points::add_way(ways, ends[w], q);
+            let q = word::leaving(ends, w);
+            reach::add_way(ways, ends[w], q);
         }
         w += 1;
     }
@@ -44,7 +45,7 @@ fn add_ways(ends: &[usize], position: &[u32], merging: bool, looped: u64, ways: 
 
 // How many free zones have their end A at each point.
 fn count_starts(zones: usize, ends: &[usize], position: &[u32], counts: &mut [usize])
-    requires { ⌜ Sized 64 zones (now ends) (now position) × (now counts ≡ replicate 64 0) ⌝ }
+    requires { ⌜ EndsAmong 64 zones (now ends) (now position) × (now counts ≡ replicate 64 0) ⌝ }
     ensures { λ r. ⌜ StartCounts zones (now (ends .entry)) (now (position .entry)) (now (counts .exit)) ⌝ }
 {
     let mut z = 0;
@@ -73,47 +74,47 @@ fn zones_in(counts: &[usize], part: u64) -> usize
 
 // The points of the free parts that hold a loop: at least as many free zones as points. The part of the lowest point not yet in one is
 // grown over the ways of free zones.
-fn looped_points(points: usize, zones: usize, ends: &[usize], position: &[u32]) -> u64
-    requires { ⌜ Sized points zones (now ends) (now position) ⌝ }
-    ensures { λ r. ⌜ Looped points zones (now (ends .entry)) (now (position .entry)) r ⌝ }
+fn looped_points(head: Head, ends: &[usize], position: &[u32]) -> u64
+    requires { ⌜ EndsAmong (head .points) (head .zones) (now ends) (now position) ⌝ }
+    ensures { λ r. ⌜ Looped (trackOf head (now (ends .entry))) (now (position .entry)) r ⌝ }
 {
     let mut ways = [0u64; 64];
     add_ways(ends, position, false, 0, &mut ways);
     let mut counts = [0usize; 64];
-    count_starts(zones, ends, position, &mut counts);
+    count_starts(head.zones, ends, position, &mut counts);
     let mut looped = 0;
-    let mut rest = bits::all(points);
+    let mut rest = bits::all(head.points);
     while rest != 0 {
-        let part = points::grow(&ways, bits::lowest(rest));
+        let part = reach::grow(&ways, bits::lowest(rest));
         if bits::size(part) <= zones_in(&counts, part) {
             looped = looped | part;
         }
-        rest = bits::without(rest, part);
+        rest = bits::minus(rest, part);
     }
     looped
 }
 
 // Home's set of points at the end of the collapse. Joining and merging are one growing: a joined zone is gone over both ways, and a
 // held one from where its carrier leaves to where it starts.
-fn home_set(points: usize, home: usize, zones: usize, ends: &[usize], position: &[u32]) -> u64
-    requires { ⌜ Parsed (trackOf points home zones (now ends)) (now position) ⌝ }
-    ensures { λ r. ⌜ HomeWord (trackOf points home zones (now (ends .entry))) (now (position .entry)) r ⌝ }
+fn home_set(head: Head, ends: &[usize], position: &[u32]) -> u64
+    requires { ⌜ Bounded (trackOf head (now ends)) (now position) ⌝ }
+    ensures { λ r. ⌜ HomeWord (trackOf head (now (ends .entry))) (now (position .entry)) r ⌝ }
 {
-    let looped = looped_points(points, zones, ends, position);
+    let looped = looped_points(head, ends, position);
     let mut ways = [0u64; 64];
     add_ways(ends, position, true, looped, &mut ways);
-    points::grow(&ways, home)
+    reach::grow(&ways, head.home)
 }
 
 // Every carrier that leaves at a point of the set is taken off.
 fn take_off(zones: usize, ends: &[usize], set: u64, position: &mut [u32])
-    requires { ⌜ Sized 64 zones (now ends) (now position) ⌝ }
+    requires { ⌜ EndsAmong 64 zones (now ends) (now position) ⌝ }
     ensures { λ r. ⌜ now (position .exit) ≡ leftPosition (now (ends .entry)) set (now (position .entry)) ⌝ }
 {
     let mut z = 0;
     while z < zones {
         let v = position[z];
-        let q = words::leaving(ends, 2 * z + (v % 2) as usize);
+        let q = word::leaving(ends, 2 * z + (v % 2) as usize);
         if bits::has(set, q) {
             position[z] = 0;
         }
@@ -122,16 +123,10 @@ fn take_off(zones: usize, ends: &[usize], set: u64, position: &mut [u32])
 }
 
 // What the collapse leaves of a position: the carriers that it never merges.
-pub fn collapse_position(
-    points: usize,
-    home: usize,
-    zones: usize,
-    ends: &[usize],
-    position: &mut [u32],
-)
-    requires { ⌜ Parsed (trackOf points home zones (now ends)) (now position) ⌝ }
-    ensures { λ r. ⌜ Collapsed (trackOf points home zones (now (ends .entry))) (now (position .entry)) (now (position .exit)) ⌝ }
+pub fn collapse_position(head: Head, ends: &[usize], position: &mut [u32])
+    requires { ⌜ Bounded (trackOf head (now ends)) (now position) ⌝ }
+    ensures { λ r. ⌜ Collapsed (trackOf head (now (ends .entry))) (now (position .entry)) (now (position .exit)) ⌝ }
 {
-    let set = home_set(points, home, zones, ends, position);
-    take_off(zones, ends, set, position);
+    let set = home_set(head, ends, position);
+    take_off(head.zones, ends, set, position);
 }

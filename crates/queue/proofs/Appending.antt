@@ -7,7 +7,7 @@ use mathlib.Core.Bool.{Bool, true, false, not, _&&_, _||_, or-false}
 use native.Mathlib.Omega.{arith}
 use lib.Dec.{eqb}
 use borrow.Author.Tests.{ne-eqb}
-use Rattle.model.specs.Lists.{countUp, consIf, keep, any}
+use Rattle.model.specs.Lists.{countUp, consIf, keep, anyOf}
 use Rattle.model.proofs.ListLaws.{keep-ext, any-append, mem-countUp}
 use Rattle.least.specs.Queue.{Queue, inQueue, offerIf, offer, offerAll}
 
@@ -28,7 +28,7 @@ module _ (g : ℕ → Bool) (i : ℕ) where
       same v m =
           let other : v ≡ k → ⊥ = λ e. omega (arith, mem-countUp (suc k) n m) in
           ap (λ (t : Bool). g v && not t)
-          (any-append (eqb v) (q .words) (k ∷ []) ∙ ap (λ (t : Bool). any (eqb v) (q .words) || (t || false)) (ne-eqb v k other) ∙ or-false (any (eqb v) (q .words)))
+          (any-append (eqb v) (q .words) (k ∷ []) ∙ ap (λ (t : Bool). anyOf (eqb v) (q .words) || (t || false)) (ne-eqb v k other) ∙ or-false (anyOf (eqb v) (q .words)))
 
   pub offer-row : (k n : ℕ) (q : Queue) → offerAll i q (keep g (countUp k n)) ≡ longer q (keep (new q) (countUp k n))
   unfolding offerAll offer

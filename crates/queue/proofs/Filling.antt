@@ -8,7 +8,7 @@ use native.Mathlib.Omega.{arith}
 use lib.ListN.{length, set, take, drop, length-set, length-append, length-map}
 use lib.Seq.{sets, length-sets, sets-eq}
 use Rattle.model.specs.Lists.{overwrittenAt}
-use Rattle.queue.specs.Offers.{Room, Stored}
+use Rattle.queue.specs.Offers.{QueueRoom, Stored}
 
 sets-append : (l : List ℕ) (i : ℕ) (xs ys : List ℕ) → sets l i (xs ++ ys) ≡ sets (sets l i xs) (i + length xs) ys
 sets-append l i [] ys = ap (λ (k : ℕ). sets l k ys) (omega arith)
@@ -28,9 +28,9 @@ pub record Filling (i n : ℕ) (left words froms : List ℕ) (found : ℕ) (all 
 pub filling-starts : (i found : ℕ) (all words froms : List ℕ) → Filling i found all words froms found all words froms
 filling-starts i found all words froms = record { words-same = refl; froms-same = refl; counted = refl; words-end = refl; froms-end = refl }
 
-module _ {i n : ℕ} {left words froms : List ℕ} {found : ℕ} {all words₀ froms₀ : List ℕ} (room : Room all found words₀ froms₀) (f : Filling i n left words froms found all words₀ froms₀) where
+module _ {i n : ℕ} {left words froms : List ℕ} {found : ℕ} {all words₀ froms₀ : List ℕ} (room : QueueRoom all found words₀ froms₀) (f : Filling i n left words froms found all words₀ froms₀) where
   -- the first words to come fit
-  pub filling-room : {vs : List ℕ} (more : List ℕ) → left ≡ vs ++ more → Room vs n words froms
+  pub filling-room : {vs : List ℕ} (more : List ℕ) → left ≡ vs ++ more → QueueRoom vs n words froms
   filling-room {vs} more e =
       let l : length left ≡ length vs + length more = ap length e ∙ length-append vs more in
       record { in-words = omega (arith, f .counted, f .words-same, room .in-words); in-froms = omega (arith, f .counted, f .froms-same, room .in-froms) }
@@ -53,7 +53,7 @@ module _ {i n : ℕ} {left words froms : List ℕ} {found : ℕ} {all words₀ f
   pub filling-many : {vs words′ froms′ : List ℕ} {r : ℕ} (more : List ℕ) → left ≡ vs ++ more → Stored vs i n words froms words′ froms′ r → Filling i r more words′ froms′ found all words₀ froms₀
   filling-many {vs} {words′} {froms′} {r} more e s =
       let l : length left ≡ length vs + length more = ap length e ∙ length-append vs more in
-      let b : Room vs n words froms = filling-room more e in
+      let b : QueueRoom vs n words froms = filling-room more e in
       let w : words′ ≡ sets words n vs = s .words-stored ∙ sym (overwritten-sets words n vs (b .in-words)) in
       let m : length (map (λ v. i) vs) ≡ length vs = length-map vs (λ v. i) in
       let g : froms′ ≡ sets froms n (map (λ v. i) vs) = s .froms-stored ∙ sym (overwritten-sets froms n (map (λ v. i) vs) (omega (arith, b .in-froms))) in

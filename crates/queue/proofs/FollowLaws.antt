@@ -12,10 +12,10 @@ use lib.Seq.{getD-set-same, getD-set-other}
 use lib.Dec.{eqb, ltb}
 use lib.Bits.{bitOr}
 use Rattle.model.specs.Track.{rev}
-use Rattle.bits.specs.Sets.{hasBit, less}
-use Rattle.bits.proofs.BitLaws.{bit-with, bit-none, bit-less}
+use Rattle.bits.specs.Sets.{hasBit, setMinus}
+use Rattle.bits.proofs.BitLaws.{bit-with, bit-none, bit-minus}
 use Rattle.queue.specs.WordSets.{Added}
-use Rattle.queue.specs.Follows.{inRow, Sized, Starts, RowFilled, comesAfter, Follows}
+use Rattle.queue.specs.Follows.{inRow, EndsSized, Starts, RowFilled, comesAfter, Follows}
 use Rattle.queue.proofs.WordSetLaws.{same-eqb, next-below, no-words}
 
 -- a number of a table is known by its row and its place in it
@@ -96,7 +96,7 @@ module _ (starts : List ℕ) (point w : ℕ) (follows : List ℕ) where
     -- and one block stored again without the words of the zone of w
     module _ (small : w < 192) (fits : (i : ℕ) → getD starts i 0 < 2 ^ 64) {own₁ own block : ℕ} (own-fits : own < 2 ^ 64)
         (first : own₁ ≡ bitOr 0 (2 ^ (2 * (w / 2) % 64))) (second : own ≡ bitOr own₁ (2 ^ ((2 * (w / 2) + 1) % 64)))
-        (stored : block ≡ less (getD (copied starts point w follows) (3 * w + w / 64) 0) own) where
+        (stored : block ≡ setMinus (getD (copied starts point w follows) (3 * w + w / 64) 0) own) where
       pub row-filled : RowFilled starts point w follows (set (copied starts point w follows) (3 * w + w / 64) block)
       row-filled = record { row = λ v h. in-row (set (copied starts point w follows) (3 * w + w / 64) block) w v ∙ row v h (eqb (v / 64) (w / 64)) refl; others = others }
         where
@@ -106,8 +106,8 @@ module _ (starts : List ℕ) (point w : ℕ) (follows : List ℕ) where
               let same : v / 64 ≡ w / 64 = eqb-true (v / 64) (w / 64) e in
               let source : getD (copied starts point w follows) (3 * w + w / 64) 0 ≡ getD starts (3 * point + w / 64) 0 = copied-block (w / 64) (omega arith) in
               ap (λ (b : ℕ). hasBit (getD (set (copied starts point w follows) (3 * w + w / 64) block) (3 * w + b) 0) (v % 64)) same ∙
-              ap (λ (x : ℕ). hasBit x (v % 64)) (getD-set-same (copied starts point w follows) (3 * w + w / 64) block 0 (simp length-set (omega arith)) ∙ stored ∙ ap (λ (x : ℕ). less x own) source) ∙
-              bit-less (getD starts (3 * point + w / 64) 0) own (v % 64) (fits (3 * point + w / 64)) own-fits ∙
+              ap (λ (x : ℕ). hasBit x (v % 64)) (getD-set-same (copied starts point w follows) (3 * w + w / 64) block 0 (simp length-set (omega arith)) ∙ stored ∙ ap (λ (x : ℕ). setMinus x own) source) ∙
+              bit-minus (getD starts (3 * point + w / 64) 0) own (v % 64) (fits (3 * point + w / 64)) own-fits ∙
               ap₂ (λ (b : ℕ) (t : Bool). hasBit (getD starts (3 * point + b) 0) (v % 64) && not t) (sym same) (own-bit w own₁ own v first second same) ∙
               ap (λ (t : Bool). t && not (eqb (v / 2) (w / 2))) (sym (in-row starts point v))
           row v h false e =
@@ -130,7 +130,7 @@ module _ (starts : List ℕ) (point w : ℕ) (follows : List ℕ) where
 pub follows-none : (zones : ℕ) (ends follows : List ℕ) → Follows zones 0 ends follows
 follows-none zones ends follows = record { row = λ w v h _. absurd (omega arith) }
 
-pub follows-more : {zones w point : ℕ} {ends starts follows follows′ : List ℕ} → Sized zones ends → Starts (2 * zones) ends starts → w < 2 * zones → point ≡ getD ends (rev w) 0
+pub follows-more : {zones w point : ℕ} {ends starts follows follows′ : List ℕ} → EndsSized zones ends → Starts (2 * zones) ends starts → w < 2 * zones → point ≡ getD ends (rev w) 0
     → Follows zones w ends follows → RowFilled starts point w follows follows′ → Follows zones (w + 1) ends follows′
 follows-more {zones} {w} {point} {ends} {starts} {follows} {follows′} z s h e f r = record { row = λ j v l m. go j v l m (eqb j w) refl }
   where

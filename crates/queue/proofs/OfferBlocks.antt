@@ -12,11 +12,11 @@ use lib.Dec.{ltb}
 use borrow.Author.Tests.{ltb-true, ltb-false}
 use Rattle.model.specs.Lists.{countUp, keep}
 use Rattle.model.proofs.ListLaws.{mem-countUp, countUp-append, keep-ext, keep-append}
-use Rattle.bits.specs.Sets.{hasBit, less}
-use Rattle.bits.proofs.BitLaws.{bit-and, bit-less}
+use Rattle.bits.specs.Sets.{hasBit, setMinus}
+use Rattle.bits.proofs.BitLaws.{bit-and, bit-minus}
 use Rattle.queue.specs.WordSets.{inSet}
 use Rattle.queue.specs.Follows.{inRow}
-use Rattle.queue.specs.Offers.{members, Room, Stored, Offering, Offered, enterableAfter}
+use Rattle.queue.specs.Offers.{members, QueueRoom, Stored, Offering, Offered, enterableAfter}
 use Rattle.queue.proofs.Filling.{Filling, filling-starts, filling-room, filling-many, filling-done}
 
 -- word v is offered
@@ -64,14 +64,14 @@ module _ (follows : List ℕ) (last : ℕ) (enterable₀ enterable : List ℕ) (
       ap (λ (l : List ℕ). l ++ offeredFrom follows last enterable₀ (k + 1)) block-members
 
 -- the blocks below k are offered; those from k on are as at the start
-pub record Going (follows : List ℕ) (last i found : ℕ) (words₀ froms₀ enterable₀ words froms enterable : List ℕ) (n k : ℕ) : Type 0 where
+pub record OfferingBlocks (follows : List ℕ) (last i found : ℕ) (words₀ froms₀ enterable₀ words froms enterable : List ℕ) (n k : ℕ) : Type 0 where
   pub few : k ≤ 3
   pub blocks : length enterable ≡ 3
   pub filling : Filling i n (offeredFrom follows last enterable₀ k) words froms found (enterableAfter follows last enterable₀) words₀ froms₀
   pub later : (j : ℕ) → k ≤ j → getD enterable j 0 ≡ getD enterable₀ j 0
   pub still : (v : ℕ) → v < 64 * k → inSet enterable v ≡ (inSet enterable₀ v && not (inRow follows last v))
 
-pub going-starts : (follows : List ℕ) (last i found : ℕ) (words froms enterable : List ℕ) → length enterable ≡ 3 → Going follows last i found words froms enterable words froms enterable found 0
+pub going-starts : (follows : List ℕ) (last i found : ℕ) (words froms enterable : List ℕ) → length enterable ≡ 3 → OfferingBlocks follows last i found words froms enterable words froms enterable found 0
 going-starts follows last i found words froms enterable e = record {
   few = omega arith;
   blocks = e;
@@ -85,41 +85,41 @@ taken-off true true = refl
 taken-off true false = refl
 taken-off false t = refl
 
-module _ {follows : List ℕ} {last i found : ℕ} {words₀ froms₀ enterable₀ words froms enterable : List ℕ} {n k : ℕ} (o : Offering follows last found words₀ froms₀ enterable₀) (g : Going follows last i found words₀ froms₀ enterable₀ words froms enterable n k) where
+module _ {follows : List ℕ} {last i found : ℕ} {words₀ froms₀ enterable₀ words froms enterable : List ℕ} {n k : ℕ} (o : Offering follows last found words₀ froms₀ enterable₀) (g : OfferingBlocks follows last i found words₀ froms₀ enterable₀ words froms enterable n k) where
   module _ (h : k < 3) where
     next-block : offeredFrom follows last enterable₀ k ≡ members (64 * k) (nextIn follows last enterable k) ++ offeredFrom follows last enterable₀ (k + 1)
     next-block = offered-block follows last enterable₀ enterable k (g .later k (omega arith)) h
 
-    pub going-room : Room (members (64 * k) (nextIn follows last enterable k)) n words froms
+    pub going-room : QueueRoom (members (64 * k) (nextIn follows last enterable k)) n words froms
     going-room = filling-room (o .room) (g .filling) (offeredFrom follows last enterable₀ (k + 1)) next-block
 
     module _ (a : getD follows (3 * last + k) 0 < 2 ^ 64) (b : getD enterable k 0 < 2 ^ 64) where
       abbrev after : List ℕ
-      after = set enterable k (less (getD enterable k 0) (nextIn follows last enterable k))
+      after = set enterable k (setMinus (getD enterable k 0) (nextIn follows last enterable k))
 
       still-here : (v : ℕ) → 64 * k ≤ v → v < 64 * k + 64 → inSet after v ≡ (inSet enterable₀ v && not (inRow follows last v))
       still-here v c d =
           let p = v - 64 * k in
           let here : inSet enterable₀ v ≡ hasBit (getD enterable k 0) p = word-in-block k v c d enterable₀ ∙ ap (λ (x : ℕ). hasBit x p) (sym (g .later k (omega arith))) in
           word-in-block k v c d after ∙
-          ap (λ (x : ℕ). hasBit x p) (getD-set-same enterable k (less (getD enterable k 0) (nextIn follows last enterable k)) 0 (omega (arith, g .blocks))) ∙
-          bit-less (getD enterable k 0) (nextIn follows last enterable k) p b (and-lt 64 (getD follows (3 * last + k) 0) (getD enterable k 0) a b) ∙
+          ap (λ (x : ℕ). hasBit x p) (getD-set-same enterable k (setMinus (getD enterable k 0) (nextIn follows last enterable k)) 0 (omega (arith, g .blocks))) ∙
+          bit-minus (getD enterable k 0) (nextIn follows last enterable k) p b (and-lt 64 (getD follows (3 * last + k) 0) (getD enterable k 0) a b) ∙
           ap (λ (t : Bool). hasBit (getD enterable k 0) p && not t) (bit-and (getD follows (3 * last + k) 0) (getD enterable k 0) p) ∙
           taken-off (hasBit (getD enterable k 0) p) (hasBit (getD follows (3 * last + k) 0) p) ∙
           ap₂ (λ (s t : Bool). s && not t) (sym here) (sym (row-in-block k v c d follows last))
 
       still-before : (v : ℕ) → v < 64 * k → inSet after v ≡ (inSet enterable₀ v && not (inRow follows last v))
       still-before v c =
-          ap (λ (x : ℕ). hasBit x (v % 64)) (getD-set-other enterable k (v / 64) (less (getD enterable k 0) (nextIn follows last enterable k)) 0 (λ e. omega arith)) ∙
+          ap (λ (x : ℕ). hasBit x (v % 64)) (getD-set-other enterable k (v / 64) (setMinus (getD enterable k 0) (nextIn follows last enterable k)) 0 (λ e. omega arith)) ∙
           g .still v c
 
       pub going-more : {words′ froms′ : List ℕ} {r : ℕ} → Stored (members (64 * k) (nextIn follows last enterable k)) i n words froms words′ froms′ r
-          → Going follows last i found words₀ froms₀ enterable₀ words′ froms′ (set enterable k (less (getD enterable k 0) (nextIn follows last enterable k))) r (k + 1)
+          → OfferingBlocks follows last i found words₀ froms₀ enterable₀ words′ froms′ (set enterable k (setMinus (getD enterable k 0) (nextIn follows last enterable k))) r (k + 1)
       going-more s = record {
         few = omega arith;
-        blocks = length-set enterable k (less (getD enterable k 0) (nextIn follows last enterable k)) ∙ g .blocks;
+        blocks = length-set enterable k (setMinus (getD enterable k 0) (nextIn follows last enterable k)) ∙ g .blocks;
         filling = filling-many (o .room) (g .filling) (offeredFrom follows last enterable₀ (k + 1)) next-block s;
-        later = λ j c. getD-set-other enterable k j (less (getD enterable k 0) (nextIn follows last enterable k)) 0 (λ e. omega arith) ∙ g .later j (omega arith);
+        later = λ j c. getD-set-other enterable k j (setMinus (getD enterable k 0) (nextIn follows last enterable k)) 0 (λ e. omega arith) ∙ g .later j (omega arith);
         still = λ v c. go v c (ltb v (64 * k)) refl;
       }
         where

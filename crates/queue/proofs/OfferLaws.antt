@@ -9,17 +9,17 @@ use lib.ListN.{length, getD, take, drop, length-append, length-map, List·getD-a
 use lib.Seq.{getD-take, length-take-le, take-at, getD-append-add}
 use lib.Dec.{eqb, ltb}
 use borrow.Author.Tests.{eqb-true, eq-eqb, ltb-true, ltb-false, lt-ltb, le-ltb}
-use Rattle.model.specs.Lists.{countUp, below, keep, any, count, overwrittenAt}
+use Rattle.model.specs.Lists.{countUp, numbersBelow, keep, anyOf, howMany, overwrittenAt}
 use Rattle.model.specs.Track.{zoneOf, rev}
 use Rattle.model.proofs.BoolLaws.{same-test}
 use Rattle.model.proofs.ListLaws.{mem-below, below-mem, mem-countUp, countUp-append, mem-keep, keep-mem, keep-append, keep-ext, keep-none, any-true, true-any, any-append}
-use Rattle.model.proofs.CountLaws.{count-below, count-below-ext, count-either}
+use Rattle.model.proofs.CountLaws.{how-many-below, how-many-below-ext, how-many-either}
 use Rattle.model.proofs.PlaceLaws.{getD-mem, getD-map}
 use Rattle.rules.specs.Key.{mayEnter, steps, nexts}
 use Rattle.least.specs.Queue.{offerAll}
 use Rattle.queue.specs.WordSets.{inSet}
 use Rattle.queue.specs.Follows.{BoardTable, inRow, comesAfter}
-use Rattle.queue.specs.Offers.{Room, enterableAfter, Offered}
+use Rattle.queue.specs.Offers.{QueueRoom, enterableAfter, Offered}
 use Rattle.queue.proofs.Queued.{zonesOnly, queueIn, Queued}
 use Rattle.queue.proofs.Appending.{offer-row}
 use Rattle.queue.proofs.QueueArrays.{queued-most}
@@ -71,7 +71,7 @@ module _ {zones : ℕ} {ends p follows : List ℕ} (t : BoardTable zones ends p 
 
   -- in the queue
   abbrev seen : ℕ → Bool
-  seen v = any (eqb v) (take found words)
+  seen v = anyOf (eqb v) (take found words)
 
   abbrev after : ℕ → Bool
   after v = inRow follows last v && inSet enterable v
@@ -91,41 +91,41 @@ module _ {zones : ℕ} {ends p follows : List ℕ} (t : BoardTable zones ends p 
       both-pairs (eqb (getD ends v 0) (getD ends (rev last) 0)) (not (eqb (zoneOf v) (zoneOf last))) (mayEnter p c v) (not (seen v)) ∙
       sym (ap₂ (λ (a b : Bool). a && b) (row-at v (omega (arith, t .few)) (lt-ltb v m h)) (q .enters v h))
 
-  next-is : keep new (below m) ≡ next
+  next-is : keep new (numbersBelow m) ≡ next
   next-is =
-      keep-ext new after (below m) (λ v l. new-after v (mem-below m l)) ∙
-      sym (ap (keep after) whole ∙ keep-append after (below m) (countUp (0 + m) (192 - m)) ∙ ap (λ (l : List ℕ). keep after (below m) ++ l) (keep-none after (countUp (0 + m) (192 - m)) beyond) ∙ append-nil (keep after (below m)))
+      keep-ext new after (numbersBelow m) (λ v l. new-after v (mem-below m l)) ∙
+      sym (ap (keep after) whole ∙ keep-append after (numbersBelow m) (countUp (0 + m) (192 - m)) ∙ ap (λ (l : List ℕ). keep after (numbersBelow m) ++ l) (keep-none after (countUp (0 + m) (192 - m)) beyond) ∙ append-nil (keep after (numbersBelow m)))
     where
-      whole : below 192 ≡ below m ++ countUp (0 + m) (192 - m)
+      whole : numbersBelow 192 ≡ numbersBelow m ++ countUp (0 + m) (192 - m)
       whole =
           let sum : 192 ≡ m + (192 - m) = omega (arith, t .few) in
-          ap below sum ∙ countUp-append 0 m (192 - m)
+          ap numbersBelow sum ∙ countUp-append 0 m (192 - m)
 
       beyond : (v : ℕ) → List·Memᴰ v (countUp (0 + m) (192 - m)) → after v ≡ false
       beyond v l =
           let r = mem-countUp (0 + m) (192 - m) l in
           ap (λ (b : Bool). b && inSet enterable v) (row-at v (omega (arith, r, t .few)) (le-ltb v m (omega (arith, r))))
 
-  any-next : (v : ℕ) → v < m → any (eqb v) next ≡ new v
-  any-next v h = same-test (any (eqb v) next) (after v) there back ∙ sym (new-after v h)
+  any-next : (v : ℕ) → v < m → anyOf (eqb v) next ≡ new v
+  any-next v h = same-test (anyOf (eqb v) next) (after v) there back ∙ sym (new-after v h)
     where
-      there : any (eqb v) next ≡ true → after v ≡ true
+      there : anyOf (eqb v) next ≡ true → after v ≡ true
       there e =
           let x = any-true (eqb v) next e in
-          ap after (eqb-true v (x .0) (x .2)) ∙ mem-keep after (below 192) (x .1) .1
+          ap after (eqb-true v (x .0) (x .2)) ∙ mem-keep after (numbersBelow 192) (x .1) .1
 
-      back : after v ≡ true → any (eqb v) next ≡ true
+      back : after v ≡ true → anyOf (eqb v) next ≡ true
       back e = true-any (eqb v) (keep-mem after (below-mem 192 v (omega (arith, t .few))) e) (eq-eqb v v refl)
 
-  counts : count (λ v. seen v || new v) (below m) ≡ found + length next
+  counts : howMany (λ v. seen v || new v) (numbersBelow m) ≡ found + length next
   counts =
-      count-either seen new (below m) (λ v. never-both (seen v) (steps (zonesOnly zones ends) p c last v)) ∙
+      how-many-either seen new (numbersBelow m) (λ v. never-both (seen v) (steps (zonesOnly zones ends) p c last v)) ∙
       ap₂ (λ (a b : ℕ). a + b) (q .counted) (ap length next-is)
 
   most : found + length next ≤ m
-  most = omega (arith, counts, count-below (λ v. seen v || new v) m)
+  most = omega (arith, counts, how-many-below (λ v. seen v || new v) m)
 
-  pub offered-room : Room next found words froms
+  pub offered-room : QueueRoom next found words froms
   offered-room = record { in-words = omega (arith, most, q .room-words); in-froms = omega (arith, most, q .room-froms) }
 
   module _ {i : ℕ} (earlier : i < found) {words′ froms′ enterable′ : List ℕ} {r : ℕ} (o : Offered follows last i found words froms enterable words′ froms′ enterable′ r) where
@@ -156,16 +156,16 @@ module _ {zones : ℕ} {ends p follows : List ℕ} (t : BoardTable zones ends p 
       inside = λ j h. inside j h (ltb j found) refl;
       falls = λ j l h. falls j l h (ltb j found) refl;
       enters = enters;
-      counted = count-below-ext (λ v. any (eqb v) (take r words′)) (λ v. seen v || new v) m any-taken ∙ counts ∙ sym (o .stored .longer);
+      counted = how-many-below-ext (λ v. anyOf (eqb v) (take r words′)) (λ v. seen v || new v) m any-taken ∙ counts ∙ sym (o .stored .longer);
     }
       where
-        any-taken : (v : ℕ) → v < m → any (eqb v) (take r words′) ≡ (seen v || new v)
+        any-taken : (v : ℕ) → v < m → anyOf (eqb v) (take r words′) ≡ (seen v || new v)
         any-taken v h =
-            ap (any (eqb v)) (ap (λ (k : ℕ). take k words′) (o .stored .longer) ∙ words-taken) ∙
+            ap (anyOf (eqb v)) (ap (λ (k : ℕ). take k words′) (o .stored .longer) ∙ words-taken) ∙
             any-append (eqb v) (take found words) next ∙
             ap (λ (b : Bool). seen v || b) (any-next v h)
 
-        enters : (v : ℕ) → v < m → inSet enterable′ v ≡ (mayEnter p c v && not (any (eqb v) (take r words′)))
+        enters : (v : ℕ) → v < m → inSet enterable′ v ≡ (mayEnter p c v && not (anyOf (eqb v) (take r words′)))
         enters v h =
             o .still v (omega (arith, t .few)) ∙
             ap (λ (b : Bool). b && not (inRow follows last v)) (q .enters v h) ∙
@@ -182,7 +182,7 @@ module _ {zones : ℕ} {ends p follows : List ℕ} (t : BoardTable zones ends p 
             let sum : j ≡ found + (j - found) = omega arith in
             let few : j - found < length next = omega (arith, o .stored .longer) in
             let there : getD words′ j 0 ≡ getD next (j - found) 0 = ap (λ (k : ℕ). getD words′ k 0) sum ∙ stored-there next words words′ found (omega (arith, queued-most q, q .room-words)) words-taken (j - found) few in
-            rw there (mem-below m (mem-keep new (below m) (rw next-is (getD-mem 0 next (j - found) few)) .0))
+            rw there (mem-below m (mem-keep new (numbersBelow m) (rw next-is (getD-mem 0 next (j - found) few)) .0))
 
         falls : (j : ℕ) → 0 < j → j < r → (b : Bool) → ltb j found ≡ b → getD froms′ j 0 < j
         falls j z h true e =

@@ -9,9 +9,9 @@ use lib.ListN.{length, getD, take, set, length-set}
 use lib.Seq.{getD-take, length-take-le, getD-set-same, take-suc-set}
 use lib.Dec.{eqb}
 use borrow.Author.Tests.{eq-eqb, ne-eqb}
-use Rattle.model.specs.Lists.{below, any}
-use Rattle.model.proofs.ListLaws.{count-none}
-use Rattle.model.proofs.CountLaws.{count-below, count-one-more}
+use Rattle.model.specs.Lists.{numbersBelow, anyOf}
+use Rattle.model.proofs.ListLaws.{how-many-none}
+use Rattle.model.proofs.CountLaws.{how-many-below, how-many-one-more}
 use Rattle.model.specs.Position.{Position}
 use Rattle.rules.specs.Key.{mayEnter}
 use Rattle.least.specs.Queue.{pathOnto, pathTo}
@@ -21,7 +21,7 @@ use Rattle.queue.proofs.Queued.{queueIn, Queued}
 
 module _ {m : ℕ} {p : Position} {c : ℕ} {words froms enterable : List ℕ} {n : ℕ} (q : Queued m p c words froms enterable n) where
   pub queued-most : n ≤ m
-  queued-most = omega (arith, q .counted, count-below (λ v. any (eqb v) (take n words)) m)
+  queued-most = omega (arith, q .counted, how-many-below (λ v. anyOf (eqb v) (take n words)) m)
 
   pub queue-size : length (take n words) ≡ n
   queue-size = length-take-le n words (omega (arith, queued-most, q .room-words))
@@ -61,9 +61,9 @@ queued-one m p c words froms enterable w a b d h enters = record {
   falls = λ j z l. absurd (omega arith);
   enters = λ v l. enters v l ∙ ap (λ (t : Bool). mayEnter p c v && not t) (sym (alone v));
   counted =
-      count-one-more (λ v. any (eqb v) (take 1 (set words 0 w))) (λ v. false) m w h (alone w ∙ eq-eqb w w refl) refl (λ j l d. alone j ∙ ne-eqb j w d) ∙
-      ap (λ (k : ℕ). k + 1) (count-none (λ v. false) (below m) (λ v l. refl));
+      how-many-one-more (λ v. anyOf (eqb v) (take 1 (set words 0 w))) (λ v. false) m w h (alone w ∙ eq-eqb w w refl) refl (λ j l d. alone j ∙ ne-eqb j w d) ∙
+      ap (λ (k : ℕ). k + 1) (how-many-none (λ v. false) (numbersBelow m) (λ v l. refl));
 }
   where
-    alone : (v : ℕ) → any (eqb v) (take 1 (set words 0 w)) ≡ eqb v w
-    alone v = ap (any (eqb v)) (take-suc-set words 0 w (omega arith)) ∙ or-false (eqb v w)
+    alone : (v : ℕ) → anyOf (eqb v) (take 1 (set words 0 w)) ≡ eqb v w
+    alone v = ap (anyOf (eqb v)) (take-suc-set words 0 w (omega arith)) ∙ or-false (eqb v w)

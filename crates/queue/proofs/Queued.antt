@@ -6,8 +6,8 @@ use mathlib.Core.Path.{_≡_}
 use mathlib.Core.Bool.{not, _&&_}
 use lib.ListN.{length, getD, take}
 use lib.Dec.{eqb}
-use Rattle.model.specs.Lists.{below, any, count}
-use Rattle.model.specs.Track.{Track, trackOf}
+use Rattle.model.specs.Lists.{numbersBelow, anyOf, howMany}
+use Rattle.model.specs.Track.{Track}
 use Rattle.model.specs.Position.{Position}
 use Rattle.rules.specs.Key.{mayEnter}
 use Rattle.least.specs.Queue.{Queue}
@@ -15,7 +15,7 @@ use Rattle.queue.specs.WordSets.{inSet}
 
 -- the zones of a track: all that the step rule reads of it
 abbrev pub zonesOnly : ℕ → List ℕ → Track
-zonesOnly zones ends = trackOf 0 0 zones ends
+zonesOnly zones ends = record { points = 0; home = 0; zones = zones; ends = ends }
 
 -- the queue in two arrays: their first `found` entries
 abbrev pub queueIn : List ℕ → List ℕ → ℕ → Queue
@@ -30,6 +30,6 @@ pub record Queued (m : ℕ) (p : Position) (c : ℕ) (words froms enterable : Li
   -- each was found from an earlier one
   pub falls : (j : ℕ) → 0 < j → j < found → getD froms j 0 < j
   -- a word is enterable where the carrier may enter it and it is not in the queue yet
-  pub enters : (v : ℕ) → v < m → inSet enterable v ≡ (mayEnter p c v && not (any (eqb v) (take found words)))
+  pub enters : (v : ℕ) → v < m → inSet enterable v ≡ (mayEnter p c v && not (anyOf (eqb v) (take found words)))
   -- no word is in it twice
-  pub counted : count (λ v. any (eqb v) (take found words)) (below m) ≡ found
+  pub counted : howMany (λ v. anyOf (eqb v) (take found words)) (numbersBelow m) ≡ found

@@ -85,17 +85,17 @@ module _ {words froms : List ℕ} {place : ℕ} where
     back-done h = subst (λ (i : ℕ). pathOnto (suc i) (queue words froms) i left ≡ routeTo words froms place) (le-zero h) (b .rest)
 
 -- the count, with n of the words counted
-pub record Counting (froms : List ℕ) (place n j : ℕ) : Type 0 where
+pub record CountingWords (froms : List ℕ) (place n j : ℕ) : Type 0 where
   pub left : List ℕ
   pub back : Back [] froms place j left
   pub counted : suc (length left) ≡ n
   pub bound : n + j ≤ suc place
 
-pub counting-starts : (froms : List ℕ) (place : ℕ) → Counting froms place 1 place
+pub counting-starts : (froms : List ℕ) (place : ℕ) → CountingWords froms place 1 place
 counting-starts froms place = record { left = []; back = back-starts; counted = refl; bound = omega arith }
 
-module _ {froms : List ℕ} {place n j : ℕ} (f : Falling froms place) (c : Counting froms place n j) where
-  pub counting-more : 0 < j → Counting froms place (n + 1) (getD froms j 0)
+module _ {froms : List ℕ} {place n j : ℕ} (f : Falling froms place) (c : CountingWords froms place n j) where
+  pub counting-more : 0 < j → CountingWords froms place (n + 1) (getD froms j 0)
   counting-more h = record {
     left = getD [] j 0 ∷ c .left;
     back = back-more (c .back) f h;
@@ -107,7 +107,7 @@ module _ {froms : List ℕ} {place n j : ℕ} (f : Falling froms place) (c : Cou
   counting-done h = sym (c .counted) ∙ ap length (back-done (c .back) h)
 
 -- the storing, with the words from k on stored
-pub record Storing (words froms : List ℕ) (place : ℕ) (plan₀ : List ℕ) (end : ℕ) (plan : List ℕ) (k j : ℕ) : Type 0 where
+pub record StoringRoute (words froms : List ℕ) (place : ℕ) (plan₀ : List ℕ) (end : ℕ) (plan : List ℕ) (k j : ℕ) : Type 0 where
   pub left : List ℕ
   pub back : Back words froms place j left
   pub counted : k + length left ≡ end
@@ -117,7 +117,7 @@ pub record Storing (words froms : List ℕ) (place : ℕ) (plan₀ : List ℕ) (
   pub stored : plan ≡ take k plan₀ ++ (left ++ drop end plan₀)
 
 pub storing-starts : (words froms : List ℕ) (place : ℕ) (plan : List ℕ) (end : ℕ) → length (routeTo words froms place) ≤ end → end ≤ length plan
-    → Storing words froms place plan end plan end place
+    → StoringRoute words froms place plan end plan end place
 storing-starts words froms place plan end r h = record {
   left = [];
   back = back-starts;
@@ -135,7 +135,7 @@ store-before l r (suc i) v h b =
     let e : suc i - 1 ≡ i = omega arith in
     rw e (ap (λ (m : List ℕ). set (m ++ r) i v) (take-suc l i 0 b) ∙ ap (λ (m : List ℕ). set m i v) (append-snoc (take i l) (getD l i 0) r) ∙ set-at (take i l) (getD l i 0) r v i (length-take-le i l (omega arith)))
 
-module _ {words froms : List ℕ} {place : ℕ} {plan₀ : List ℕ} {end : ℕ} {plan : List ℕ} {k j : ℕ} (s : Storing words froms place plan₀ end plan k j) where
+module _ {words froms : List ℕ} {place : ℕ} {plan₀ : List ℕ} {end : ℕ} {plan : List ℕ} {k j : ℕ} (s : StoringRoute words froms place plan₀ end plan k j) where
   pub storing-room : 0 < k
   storing-room = omega (arith, s .counted, s .room, back-longer (s .back))
 
@@ -145,7 +145,7 @@ module _ {words froms : List ℕ} {place : ℕ} {plan₀ : List ℕ} {end : ℕ}
   store : (v : ℕ) → set plan (k - 1) v ≡ take (k - 1) plan₀ ++ ((v ∷ s .left) ++ drop end plan₀)
   store v = ap (λ (l : List ℕ). set l (k - 1) v) (s .stored) ∙ store-before plan₀ (s .left ++ drop end plan₀) k v storing-room (omega (arith, s .counted, s .inside))
 
-  pub storing-more : Falling froms place → 0 < j → Storing words froms place plan₀ end (set plan (k - 1) (getD words j 0)) (k - 1) (getD froms j 0)
+  pub storing-more : Falling froms place → 0 < j → StoringRoute words froms place plan₀ end (set plan (k - 1) (getD words j 0)) (k - 1) (getD froms j 0)
   storing-more f h = record {
     left = getD words j 0 ∷ s .left;
     back = back-more (s .back) f h;
@@ -195,8 +195,9 @@ module _ {carrier place : ℕ} {words froms plan : List ℕ} {k : ℕ} (e : Entr
   pub entry-room : k + 2 + n ≤ length plan
   entry-room = omega (arith, entry-few, e .room)
 
-  pub entry-fits : (length (routeTo words froms place) ≤ k + 2 + n) × (k + 2 + n ≤ length (set (set plan k carrier) (k + 1) n))
-  entry-fits = (omega (arith, entry-count), simp length-set entry-room)
+  -- whatever the first two words are
+  pub entry-fits : (a b : ℕ) → (length (routeTo words froms place) ≤ k + 2 + n) × (k + 2 + n ≤ length (set (set plan k a) (k + 1) b))
+  entry-fits a b = (omega (arith, entry-count), simp length-set entry-room)
 
   pub entry-written : {plan′ : List ℕ}
       → plan′ ≡ overwrittenAt (k + 2 + n - length (routeTo words froms place)) (routeTo words froms place) (set (set plan k carrier) (k + 1) n)

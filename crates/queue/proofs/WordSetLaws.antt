@@ -75,8 +75,8 @@ pub free-starts : (p : Position) (l : List ℕ) → Fillable p l → FreeBelow p
 free-starts p l n = record {
   low = omega arith;
   few = n .few;
-  blocks = ap length (n .none);
-  has = λ v. ap (λ (m : List ℕ). inSet m v) (n .none) ∙ no-words 3 v ∙ ap (λ (t : Bool). t && isFree p (v / 2)) (sym (le-ltb (v / 2) 0 (omega arith)));
+  blocks = ap length (n .no-word);
+  has = λ v. ap (λ (m : List ℕ). inSet m v) (n .no-word) ∙ no-words 3 v ∙ ap (λ (t : Bool). t && isFree p (v / 2)) (sym (le-ltb (v / 2) 0 (omega arith)));
 }
 
 module _ {p : Position} {l : List ℕ} {z : ℕ} (f : FreeBelow p l z) (h : z < length p) where

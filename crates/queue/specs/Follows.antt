@@ -14,7 +14,7 @@ abbrev pub inRow : List ℕ → ℕ → ℕ → Bool
 inRow table k v = inSet table (192 * k + v)
 
 -- the ends of at most 96 zones, at points below 64
-pub record Sized (zones : ℕ) (ends : List ℕ) : Type 0 where
+pub record EndsSized (zones : ℕ) (ends : List ℕ) : Type 0 where
   pub few : zones ≤ 96
   pub both : 2 * zones ≤ length ends
   pub inside : (w : ℕ) → w < 2 * zones → getD ends w 0 < 64

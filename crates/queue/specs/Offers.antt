@@ -4,7 +4,7 @@ use mathlib.Core.List.{List, map}
 use mathlib.Core.Path.{_≡_}
 use mathlib.Core.Bool.{not, _&&_}
 use lib.ListN.{length}
-use Rattle.model.specs.Lists.{countUp, below, keep, overwrittenAt}
+use Rattle.model.specs.Lists.{countUp, numbersBelow, keep, overwrittenAt}
 use Rattle.bits.specs.Sets.{hasBit}
 use Rattle.queue.specs.WordSets.{inSet}
 use Rattle.queue.specs.Follows.{inRow}
@@ -14,7 +14,7 @@ abbrev pub members : ℕ → ℕ → List ℕ
 members first block = keep (λ v. hasBit block (v - first)) (countUp first 64)
 
 -- there is room for these words
-pub record Room (vs : List ℕ) (found : ℕ) (words froms : List ℕ) : Type 0 where
+pub record QueueRoom (vs : List ℕ) (found : ℕ) (words froms : List ℕ) : Type 0 where
   pub in-words : found + length vs ≤ length words
   pub in-froms : found + length vs ≤ length froms
 
@@ -26,13 +26,13 @@ pub record Stored (vs : List ℕ) (i found : ℕ) (words froms words′ froms′
 
 -- the words in the row of `last` that are enterable, ascending
 abbrev pub enterableAfter : List ℕ → ℕ → List ℕ → List ℕ
-enterableAfter follows last enterable = keep (λ v. inRow follows last v && inSet enterable v) (below 192)
+enterableAfter follows last enterable = keep (λ v. inRow follows last v && inSet enterable v) (numbersBelow 192)
 
 -- what an offering asks: a row for the word, a set of three blocks, and room
 pub record Offering (follows : List ℕ) (last found : ℕ) (words froms enterable : List ℕ) : Type 0 where
   pub row : 3 * last + 3 ≤ length follows
   pub blocks : length enterable ≡ 3
-  pub room : Room (enterableAfter follows last enterable) found words froms
+  pub room : QueueRoom (enterableAfter follows last enterable) found words froms
 
 -- what it gives: those words are in the queue, and enterable no more
 pub record Offered (follows : List ℕ) (last i found : ℕ) (words froms enterable words′ froms′ enterable′ : List ℕ) (r : ℕ) : Type 0 where

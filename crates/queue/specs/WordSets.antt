@@ -24,7 +24,7 @@ pub record ZoneAdded (zone : ℕ) (set set′ : List ℕ) : Type 0 where
 -- what the filling asks: at most 96 zones, and no word in the set of three blocks
 pub record Fillable (p : Position) (set : List ℕ) : Type 0 where
   pub few : length p ≤ 96
-  pub none : set ≡ replicate 3 0
+  pub no-word : set ≡ replicate 3 0
 
 -- the words of the free zones, and no others
 pub record FreeWords (p : Position) (set : List ℕ) : Type 0 where

@@ -28,7 +28,7 @@ entryOf c ws = c ∷ length ws ∷ ws
 -- what the writing of an entry asks
 pub record EntryRoom (carrier place : ℕ) (words froms plan : List ℕ) (k : ℕ) : Type 0 where
   pub readable : Readable words froms place
-  pub number : carrier < 65536
+  pub carrier-small : carrier < 65536
   pub few : place < 65535
   -- no route to a place has more words than there are places up to it
   pub room : k + 3 + place ≤ length plan

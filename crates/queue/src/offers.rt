@@ -1,6 +1,6 @@
 // The queue of a breadth-first search: the words found, each with the place of the word it was found from.
 ghost use Prim.Native.Nat.{_≤_};
-ghost use Rattle.queue.specs.Offers.{members, Room, Stored, Offering, Offered};
+ghost use Rattle.queue.specs.Offers.{members, QueueRoom, Stored, Offering, Offered};
 
 // Stores the words of one block of a set at the queue's end, ascending, as found from place i. Gives the queue's new length.
 fn store_block(
@@ -11,7 +11,7 @@ fn store_block(
     words: &mut [usize],
     froms: &mut [usize],
 ) -> usize
-    requires { ⌜ (first ≤ 128) × Room (members first block) found (now words) (now froms) ⌝ }
+    requires { ⌜ (first ≤ 128) × QueueRoom (members first block) found (now words) (now froms) ⌝ }
     ensures { λ r. ⌜ Stored (members first block) i found (now (words .entry)) (now (froms .entry)) (now (words .exit)) (now (froms .exit)) r ⌝ }
 {
     let mut n = found;
@@ -45,7 +45,7 @@ pub fn offer_next(
     let mut k = 0;
     while k < 3 {
         let next = follows[3 * last + k] & enterable[k];
-        enterable[k] = bits::without(enterable[k], next);
+        enterable[k] = bits::minus(enterable[k], next);
         n = store_block(64 * k, next, i, n, words, froms);
         k += 1;
     }

@@ -8,7 +8,7 @@ use lib.ListN.{length}
 use lib.Dec.{T, ltb, ltb→lt, lit<}
 use Rattle.model.specs.Track.{Track, zoneOf, headingOf}
 use Rattle.model.specs.Position.{Position, at, Stands}
-use Rattle.model.specs.Labels.{parts, joinZones, join}
+use Rattle.model.specs.Labels.{parts, joinZones, joinPoints}
 use Rattle.model.specs.Reading.{refusal, tooShort, wrongLength, wrongVersion, outOfRange, wrongCount, badZone, repeated, underTwo, apart, trackSaid, positionSaid}
 use Rattle.rules.specs.Search.{leastFrom, wordsTo, goalIn}
 use Rattle.rules.specs.Key.{keyOf, keyIn, keyFor, named, run, runFor, firstToGo, leastRoute, zoneFor, nexts, planWords}
@@ -22,7 +22,7 @@ unfolding starred
 starred-rows = refl
 
 pub starred-hold : map given starred ≡ map said starred
-unfolding starred boardT turnWith farLoop keyOf keyIn keyFor named run runFor firstToGo leastRoute zoneFor nexts planWords leastFrom wordsTo goalIn collapseOf collapseIn left mergeAll mergeZone joined turns loopIn freeParts parts joinZones join refusal tooShort wrongLength wrongVersion outOfRange wrongCount badZone repeated underTwo apart trackSaid positionSaid markOf markFor markClaim sameList markEntries markEntry markEnd endsHome byRules follow stillOut
+unfolding starred boardT turnWith farLoop keyOf keyIn keyFor named run runFor firstToGo leastRoute zoneFor nexts planWords leastFrom wordsTo goalIn collapseOf collapseIn left mergeAll mergeZone joined turns loopIn freeParts parts joinZones joinPoints refusal tooShort wrongLength wrongVersion outOfRange wrongCount badZone repeated underTwo apart trackSaid positionSaid markOf markFor markClaim sameList markEntries markEntry markEnd endsHome byRules follow stillOut
 starred-hold = refl
 
 abbrev turn : Track
@@ -40,4 +40,4 @@ turn-emptied =
     (Moves.more (Moved.done (arrives 1 (stands _ 6 1 tt tt refl) refl))
     (Moves.more (Moved.done (enters 4 (stands _ 5 4 tt tt refl) (lit< tt) refl refl))
     (Moves.more (Moved.done (enters 3 (stands _ 5 3 tt tt refl) (lit< tt) refl refl))
-    (Moves.more (Moved.done (arrives 1 (stands _ 5 1 tt tt refl) refl)) Moves.none)))))
+    (Moves.more (Moved.done (arrives 1 (stands _ 5 1 tt tt refl) refl)) Moves.unmoved)))))

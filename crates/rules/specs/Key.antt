@@ -5,7 +5,7 @@ use mathlib.Core.Bool.{Bool, cond, not, _&&_, _||_}
 use mathlib.Core.Option.{Option, none, some}
 use lib.ListN.{length}
 use lib.Dec.{ltb, eqb}
-use Rattle.model.specs.Lists.{below, keep, first}
+use Rattle.model.specs.Lists.{numbersBelow, keep, first}
 use Rattle.model.specs.Track.{Track, zoneOf, start, leave}
 use Rattle.model.specs.Position.{Position, at, carrierOf, retire, outs, standing}
 use Rattle.model.specs.Reading.{refusal, trackSaid, positionSaid}
@@ -26,7 +26,7 @@ steps t p c w v = eqb (start t v) (leave t w) && mayFollow p c w v
 
 -- the words that carrier c may go to from word w, ascending
 unfoldable pub nexts : Track → Position → ℕ → ℕ → List ℕ
-nexts t p c w = keep (steps t p c w) (below (2 * t .zones))
+nexts t p c w = keep (steps t p c w) (numbersBelow (2 * t .zones))
 
 -- the word leaves at the home point
 abbrev pub leavesHome : Track → ℕ → Bool
@@ -34,7 +34,7 @@ leavesHome t w = eqb (leave t w) (t .home)
 
 -- the zone where a carrier stands
 unfoldable pub zoneFor : Position → ℕ → Option ℕ
-zoneFor p c = first (λ z. eqb (carrierOf (at p z)) c) (below (length p))
+zoneFor p c = first (λ z. eqb (carrierOf (at p z)) c) (numbersBelow (length p))
 
 abbrev pub routeFrom : Track → Position → ℕ → Option ℕ → Option (List ℕ)
 routeFrom t p c none = none
@@ -86,7 +86,7 @@ unfoldable pub planWords : List Entry → List ℕ
 planWords [] = []
 planWords (e ∷ es) = e .carrier ∷ length (e .words) ∷ e .words ++ planWords es
 
--- what the key gives: the verdict, the words written to the plan, the numbers written to the list
+-- what the key gives: the verdict, the words written to the plan, the carriers written to the list
 pub record KeyAnswer : Type 0 where
   pub verdict : ℕ
   pub plan : List ℕ
@@ -94,6 +94,10 @@ pub record KeyAnswer : Type 0 where
 
 abbrev pub turnedBack : ℕ → KeyAnswer
 turnedBack n = record { verdict = n; plan = []; list = [] }
+
+-- the number is one of 1 to 11, on which nothing is done
+abbrev pub turnsBack : ℕ → Bool
+turnsBack n = not (eqb n 0) && ltb n 12
 
 unfoldable pub keyFor : Track → Position → KeyAnswer
 keyFor t p = record { verdict = verdictOf (named t p); plan = planWords (run t p .plan); list = named t p }

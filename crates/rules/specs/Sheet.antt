@@ -6,7 +6,7 @@ use mathlib.Core.Bool.{Bool, true, false, cond, not, _&&_, _||_}
 use mathlib.Core.Logic.{_⊎_, _↔_}
 use lib.ListN.{length, take, drop}
 use lib.Dec.{ltb, eqb}
-use Rattle.model.specs.Lists.{any, Ascending}
+use Rattle.model.specs.Lists.{anyOf, Ascending}
 use Rattle.model.specs.Track.{Track, zoneOf, headingOf}
 use Rattle.model.specs.Position.{Position, at, carrierOf, retire, outs}
 use Rattle.model.specs.Reading.{refusal, trackSaid, positionSaid}
@@ -25,7 +25,7 @@ pub record OrderGiven (t : Track) (p : Position) (sheet : List ℕ) : Type 0 whe
 pub record BlockedNamed (t : Track) (p : Position) (sheet : List ℕ) : Type 0 where
   pub list : List ℕ
   pub written : sheet ≡ 1 ∷ list
-  pub some : list ≡ [] → ⊥
+  pub not-empty : list ≡ [] → ⊥
   pub ascending : Ascending list
   pub blocked : (c : ℕ) → List·Memᴰ c list ↔ Blocked t p c
 
@@ -35,7 +35,7 @@ Right t p sheet = OrderGiven t p sheet ⊎ BlockedNamed t p sheet
 
 -- the carrier is still out
 unfoldable pub stillOut : Position → ℕ → Bool
-stillOut p c = not (eqb c 0) && any (λ v. eqb (carrierOf v) c) p
+stillOut p c = not (eqb c 0) && anyOf (λ v. eqb (carrierOf v) c) p
 
 module _ (t : Track) (p : Position) (c : ℕ) where
   -- each word is below 2 × Z and follows the one before by the moving rules

@@ -7,9 +7,9 @@ use Rattle.rules.specs.Sheet.{markOf}
 use Rattle.rules.specs.Tries.{Move, into, home}
 
 -- a board with its verdict, plan and list; or a board and a sheet with the marker's number
-pub data Row : Type 0 where
-  board : (bytes : List ℕ) (verdict : ℕ) (plan list : List ℕ) → Row
-  sheet : (bytes words : List ℕ) (number : ℕ) → Row
+pub data StarredRow : Type 0 where
+  board : (bytes : List ℕ) (verdict : ℕ) (plan list : List ℕ) → StarredRow
+  sheet : (bytes words : List ℕ) (number : ℕ) → StarredRow
 
 -- board T with these carriers and headings in its two zones
 unfoldable pub boardT : ℕ → ℕ → ℕ → ℕ → List ℕ
@@ -22,7 +22,7 @@ turnWith c h = 0 ∷ 16 ∷ 1 ∷ 3 ∷ 0 ∷ 3 ∷ 0 ∷ 1 ∷ 5 ∷ 0 ∷ 1 �
 unfoldable pub farLoop : List ℕ
 farLoop = 0 ∷ 20 ∷ 1 ∷ 4 ∷ 0 ∷ 4 ∷ 0 ∷ 1 ∷ 5 ∷ 0 ∷ 1 ∷ 2 ∷ 6 ∷ 0 ∷ 2 ∷ 3 ∷ 0 ∷ 0 ∷ 2 ∷ 3 ∷ 0 ∷ 0 ∷ []
 
-unfoldable pub starred : List Row
+unfoldable pub starred : List StarredRow
 starred =
     board (boardT 0 0 0 0) 0 [] [] ∷
     board (boardT 7 0 0 0) 0 (7 ∷ 2 ∷ 0 ∷ 3 ∷ []) [] ∷
@@ -41,12 +41,12 @@ pub record Answers : Type 0 where
   pub collapse : CollapseAnswer
   pub mark : ℕ
 
-abbrev pub given : Row → Answers
+abbrev pub given : StarredRow → Answers
 given (board b v p l) = record { key = keyOf b 96 8; collapse = collapseOf b 8; mark = 0 }
 given (sheet b w n) = record { key = turnedBack 0; collapse = record { number = 0; list = [] }; mark = markOf b w }
 
 -- what document 01 says
-abbrev pub said : Row → Answers
+abbrev pub said : StarredRow → Answers
 said (board b v p l) = record { key = record { verdict = v; plan = p; list = l }; collapse = record { number = 0; list = l }; mark = 0 }
 said (sheet b w n) = record { key = turnedBack 0; collapse = record { number = 0; list = [] }; mark = n }
 

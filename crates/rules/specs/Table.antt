@@ -9,33 +9,33 @@ use Rattle.rules.specs.Starred.{boardT}
 
 -- an operation's input, with the room lent
 pub data Input : Type 0 where
-  key : (bytes : List ℕ) (planRoom listRoom : ℕ) → Input
-  collapse : (bytes : List ℕ) (listRoom : ℕ) → Input
-  mark : (bytes words : List ℕ) → Input
+  ofKey : (bytes : List ℕ) (planRoom listRoom : ℕ) → Input
+  ofCollapse : (bytes : List ℕ) (listRoom : ℕ) → Input
+  ofMark : (bytes words : List ℕ) → Input
 
 -- an operation's answer
 pub data Answer : Type 0 where
-  drawn : KeyAnswer → Answer
-  collapsed : CollapseAnswer → Answer
-  marked : ℕ → Answer
+  keyGives : KeyAnswer → Answer
+  collapseGives : CollapseAnswer → Answer
+  markGives : ℕ → Answer
 
 abbrev pub answerOf : Input → Answer
-answerOf (key b m n) = drawn (keyOf b m n)
-answerOf (collapse b n) = collapsed (collapseOf b n)
-answerOf (mark b ws) = marked (markOf b ws)
+answerOf (ofKey b m n) = keyGives (keyOf b m n)
+answerOf (ofCollapse b n) = collapseGives (collapseOf b n)
+answerOf (ofMark b ws) = markGives (markOf b ws)
 
-pub record Row : Type 0 where
+pub record TableRow : Type 0 where
   pub input : Input
   pub answer : Answer
 
-refused : List ℕ → ℕ → Row
-refused b n = record { input = key b 96 8; answer = drawn (turnedBack n) }
+refused : List ℕ → ℕ → TableRow
+refused b n = record { input = ofKey b 96 8; answer = keyGives (turnedBack n) }
 
-ordered : List ℕ → List ℕ → Row
-ordered b plan = record { input = key b 6 1; answer = drawn (record { verdict = 0; plan = plan; list = [] }) }
+ordered : List ℕ → List ℕ → TableRow
+ordered b plan = record { input = ofKey b 6 1; answer = keyGives (record { verdict = 0; plan = plan; list = [] }) }
 
-sheet : List ℕ → List ℕ → ℕ → Row
-sheet b ws n = record { input = mark b ws; answer = marked n }
+sheet : List ℕ → List ℕ → ℕ → TableRow
+sheet b ws n = record { input = ofMark b ws; answer = markGives n }
 
 -- board T with other first bytes; board K
 unfoldable pub headed : ℕ → ℕ → ℕ → ℕ → ℕ → ℕ → List ℕ
@@ -49,7 +49,7 @@ unfoldable pub zonesFree : ℕ → List ℕ
 zonesFree ℕ.zero = []
 zonesFree (ℕ.suc n) = 0 ∷ 1 ∷ 0 ∷ 0 ∷ zonesFree n
 
-unfoldable pub table : List Row
+unfoldable pub table : List TableRow
 unfolding refused ordered sheet
 table =
     -- 1 to 9
@@ -74,12 +74,12 @@ table =
     -- L over 255 is read
     ordered (1 ∷ 4 ∷ 1 ∷ 2 ∷ 0 ∷ 64 ∷ zonesFree 64) [] ∷
     -- 10 and 11, and room that is just enough
-    record { input = key boardK 5 1; answer = drawn (turnedBack 10) } ∷
-    record { input = key boardK 5 0; answer = drawn (turnedBack 10) } ∷
-    record { input = key boardK 6 0; answer = drawn (turnedBack 11) } ∷
+    record { input = ofKey boardK 5 1; answer = keyGives (turnedBack 10) } ∷
+    record { input = ofKey boardK 5 0; answer = keyGives (turnedBack 10) } ∷
+    record { input = ofKey boardK 6 0; answer = keyGives (turnedBack 11) } ∷
     ordered boardK (7 ∷ 2 ∷ 0 ∷ 3 ∷ []) ∷
-    record { input = collapse boardK 0; answer = collapsed (record { number = 11; list = [] }) } ∷
-    record { input = collapse boardK 1; answer = collapsed (record { number = 0; list = [] }) } ∷
+    record { input = ofCollapse boardK 0; answer = collapseGives (record { number = 11; list = [] }) } ∷
+    record { input = ofCollapse boardK 1; answer = collapseGives (record { number = 0; list = [] }) } ∷
     -- another home point, and a zone whose end A is the higher one
     ordered (0 ∷ 12 ∷ 1 ∷ 2 ∷ 1 ∷ 2 ∷ 0 ∷ 1 ∷ 7 ∷ 0 ∷ 0 ∷ 1 ∷ 0 ∷ 0 ∷ []) (7 ∷ 1 ∷ 0 ∷ []) ∷
     ordered (0 ∷ 12 ∷ 1 ∷ 2 ∷ 0 ∷ 2 ∷ 1 ∷ 0 ∷ 7 ∷ 0 ∷ 0 ∷ 1 ∷ 0 ∷ 0 ∷ []) (7 ∷ 1 ∷ 0 ∷ []) ∷

@@ -17,7 +17,7 @@ pub data Try (t : Track) (p : Position) (c : ℕ) : Position → Type 0 where
   refused : (CanGo t p c → ⊥) → Try t p c p
 
 pub data Tries (t : Track) : Position → List ℕ → Position → Type 0 where
-  none : {p : Position} → Tries t p [] p
+  untried : {p : Position} → Tries t p [] p
   more : {p q r : Position} {c : ℕ} {cs : List ℕ} → Try t p c q → Tries t q cs r → Tries t p (c ∷ cs) r
 
 -- every try would be refused
@@ -40,5 +40,5 @@ pub data Moved (t : Track) (p : Position) (m : Move) : Position → Type 0 where
   forbidden : ((q : Position) → Allowed t p m q → ⊥) → Moved t p m p
 
 pub data Moves (t : Track) : Position → List Move → Position → Type 0 where
-  none : {p : Position} → Moves t p [] p
+  unmoved : {p : Position} → Moves t p [] p
   more : {p q r : Position} {m : Move} {ms : List Move} → Moved t p m q → Moves t q ms r → Moves t p (m ∷ ms) r

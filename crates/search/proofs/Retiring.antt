@@ -4,18 +4,14 @@ use Prim.Native.Nat.{ℕ}
 use mathlib.Core.Path.{_≡_, refl, sym, _∙_, ap, ap₂, subst}
 use mathlib.Core.List.{List, [], _∷_, List·Memᴰ, Memᴰ·map}
 use mathlib.Core.Bool.{Bool, true, false, not}
-use mathlib.Core.Option.{Option, none, some}
 use native.Mathlib.Omega.{arith}
 use lib.ListN.{take}
 use lib.Dec.{eqb}
 use borrow.Author.Tests.{eqb-true, eq-eqb, ne-eqb}
 use Rattle.model.specs.Lists.{consIf, keep}
-use Rattle.model.specs.Track.{Track, trackOf}
 use Rattle.model.specs.Position.{Position, at, carrierOf, isFree, Once, retire}
 use Rattle.model.proofs.ListLaws.{keep-all}
 use Rattle.model.proofs.PositionLaws.{length-without, at-without-gone, at-without-kept, free-without, mem-outs, outs-retire}
-use Rattle.rules.specs.Routes.{Entry}
-use Rattle.rules.specs.Key.{nexts, zoneFor, routeFrom, leastRoute, goesElse, firstToGo}
 use Rattle.carriers.specs.Order.{carriersIn, Sorted}
 use Rattle.search.specs.Order.{InOrder}
 
@@ -64,25 +60,3 @@ sorted-in-order {p} {order} {count} s = record {
     held z m e =
         let out = mem-outs p (subst (λ (l : List ℕ). List·Memᴰ (carrierOf (at p z)) l) (s .carriers) (Memᴰ·map (λ z. carrierOf (at p z)) m)) in
         out .1 .numbered (omega arith)
-
--- no route depends on the count of points
-
-module _ (points q home zones : ℕ) (ends p : List ℕ) where
-  abbrev t : Track
-  t = trackOf points home zones ends
-
-  abbrev t′ : Track
-  t′ = trackOf q home zones ends
-
-  route-points : (c : ℕ) → leastRoute t p c ≡ leastRoute t′ p c
-  unfolding leastRoute nexts
-  route-points c = go (zoneFor p c)
-    where
-      go : (o : Option ℕ) → routeFrom t p c o ≡ routeFrom t′ p c o
-      go none = refl
-      go (some z) = refl
-
-  pub first-points : (cs : List ℕ) → firstToGo t p cs ≡ firstToGo t′ p cs
-  unfolding firstToGo
-  first-points [] = refl
-  first-points (c ∷ cs) = ap₂ (λ (r : Option (List ℕ)) (o : Option Entry). goesElse c r o) (route-points c) (first-points cs)

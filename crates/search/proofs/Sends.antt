@@ -1,7 +1,7 @@
 -- Laws of the rounds: what is written and the run from here make the whole run's plan, and end in its last position.
 -- One round is one step of the key's run; with none left to go, nothing is left of it.
 use Prim.Native.Nat.{ℕ, suc, _+_, _-_, _*_, _≤_, _<_}
-use mathlib.Core.Path.{_≡_, refl, sym, _∙_, ap, ap₂, subst, subst₂}
+use mathlib.Core.Path.{_≡_, refl, sym, _∙_, ap, ap₂, subst}
 use mathlib.Core.List.{List, [], _∷_, _++_, append-nil, append-assoc}
 use mathlib.Core.Bool.{Bool, true, false, _&&_, _||_, or-true, or-false}
 use mathlib.Core.Logic.{⊎-elim}
@@ -20,7 +20,7 @@ use Rattle.rules.specs.Key.{Run, run, planWords}
 use Rattle.queue.specs.WordSets.{inSet, ZoneAdded, FreeWords}
 use Rattle.queue.specs.Written.{routeTo, entryOf, EntryRoom, EntryWritten}
 use Rattle.least.proofs.PathLaws.{path-length}
-use Rattle.search.specs.Leaving.{homeTrack, Seeking, Sought}
+use Rattle.search.specs.Leaving.{Seeking, Sought}
 use Rattle.search.specs.Sending.{Prepared, planOf, SentHome}
 use Rattle.search.specs.declared.Goes.{Goes}
 use Rattle.search.specs.declared.Goes.the-variants.{From, Nobody}
@@ -28,9 +28,9 @@ use Rattle.search.proofs.Retiring.{in-order-retire}
 use Rattle.search.proofs.Runs.{run-none, run-out, run-step}
 
 -- the rounds, with the carriers of `written` gone and k words stored
-pub record Underway (home zones : ℕ) (ends follows order : List ℕ) (count : ℕ) (words₀ froms₀ free₀ p₀ plan₀ words froms free p plan : List ℕ) (left k : ℕ) : Type 0 where
-  pub seeking : Seeking zones ends p follows free order count words froms
-  pub numbers : (z : ℕ) → at p z < 131072
+pub record Underway (t : Track) (follows order : List ℕ) (count : ℕ) (words₀ froms₀ free₀ p₀ plan₀ words froms free p plan : List ℕ) (left k : ℕ) : Type 0 where
+  pub seeking : Seeking t p follows free order count words froms
+  pub carriers-small : (z : ℕ) → at p z < 131072
   pub same-words : length words ≡ length words₀
   pub same-froms : length froms ≡ length froms₀
   pub same-free : length free ≡ length free₀
@@ -40,15 +40,15 @@ pub record Underway (home zones : ℕ) (ends follows order : List ℕ) (count : 
   pub written : List ℕ
   pub here : length written ≡ k
   pub stored : plan ≡ written ++ drop k plan₀
-  pub room : k + left * (2 + 2 * zones) ≤ length plan₀
-  pub rest-plan : written ++ planOf (homeTrack home zones ends) p ≡ planOf (homeTrack home zones ends) p₀
-  pub rest-last : run (homeTrack home zones ends) p .last ≡ run (homeTrack home zones ends) p₀ .last
+  pub room : k + left * (2 + 2 * t .zones) ≤ length plan₀
+  pub rest-plan : written ++ planOf t p ≡ planOf t p₀
+  pub rest-last : run t p .last ≡ run t p₀ .last
 
-pub underway-starts : (home : ℕ) {zones : ℕ} {ends p follows free order : List ℕ} {count : ℕ} {words froms plan : List ℕ} → Prepared zones ends p follows free order count words froms plan
-    → Underway home zones ends follows order count words froms free p plan words froms free p plan count 0
-underway-starts home {zones} m = record {
+pub underway-starts : {t : Track} {p follows free order : List ℕ} {count : ℕ} {words froms plan : List ℕ} → Prepared t p follows free order count words froms plan
+    → Underway t follows order count words froms free p plan words froms free p plan count 0
+underway-starts {t} m = record {
   seeking = m .seeking;
-  numbers = m .numbers;
+  carriers-small = m .carriers-small;
   same-words = refl;
   same-froms = refl;
   same-free = refl;
@@ -58,21 +58,18 @@ underway-starts home {zones} m = record {
   written = [];
   here = refl;
   stored = refl;
-  room = omega (arith, m .room, ap (λ (n : ℕ). n * (2 + 2 * zones)) (m .counted));
+  room = omega (arith, m .room, ap (λ (n : ℕ). n * (2 + 2 * t .zones)) (m .counted));
   rest-plan = refl;
   rest-last = refl;
 }
 
-module _ {home zones : ℕ} {ends follows order : List ℕ} {count : ℕ} {words₀ froms₀ free₀ p₀ plan₀ words froms free p plan : List ℕ} {left k : ℕ}
-    (u : Underway home zones ends follows order count words₀ froms₀ free₀ p₀ plan₀ words froms free p plan left k) where
-  abbrev t : Track
-  t = homeTrack home zones ends
-
+module _ {t : Track} {follows order : List ℕ} {count : ℕ} {words₀ froms₀ free₀ p₀ plan₀ words froms free p plan : List ℕ} {left k : ℕ}
+    (u : Underway t follows order count words₀ froms₀ free₀ p₀ plan₀ words froms free p plan left k) where
   -- nothing is left of the run
-  ends-here : run t p ≡ record { plan = []; last = p } → SentHome 0 home zones ends p₀ plan₀ p plan k
+  ends-here : run t p ≡ record { plan = []; last = p } → SentHome t p₀ plan₀ p plan k
   unfolding planWords
   ends-here e = record {
-    count = sym (u .here) ∙ ap length all;
+    counted = sym (u .here) ∙ ap length all;
     written = u .stored ∙ ap₂ (λ (w : List ℕ) (n : ℕ). w ++ drop n plan₀) all (sym (u .here) ∙ ap length all);
     last = ap (λ (r : Run). r .last) (sym e) ∙ u .rest-last;
   }
@@ -80,34 +77,28 @@ module _ {home zones : ℕ} {ends follows order : List ℕ} {count : ℕ} {words
       all : u .written ≡ planOf t p₀
       all = sym (append-nil (u .written)) ∙ ap (λ (r : Run). u .written ++ planWords (r .plan)) (sym e) ∙ u .rest-plan
 
-  pub underway-seeks : Seeking (length p) ends p follows free order count words froms
-  underway-seeks = subst (λ (z : ℕ). Seeking z ends p follows free order count words froms) (sym (u .seeking .tables .each)) (u .seeking)
-
-  pub underway-done : left ≤ 0 → SentHome 0 home zones ends p₀ plan₀ p plan k
+  pub underway-done : left ≤ 0 → SentHome t p₀ plan₀ p plan k
   underway-done h = ends-here (run-out t p (omega (arith, u .counted)))
 
-  pub underway-nobody : {words′ froms′ : List ℕ} → Sought home zones ends p words′ froms′ Nobody → SentHome 0 home zones ends p₀ plan₀ p plan k
+  pub underway-nobody : {words′ froms′ : List ℕ} → Sought t p words′ froms′ Nobody → SentHome t p₀ plan₀ p plan k
   underway-nobody s = ends-here (run-none t p (sym (s .entry)))
 
 -- the answer is known
-pub sought-at : {home n zones : ℕ} {ends p words froms : List ℕ} {r : Goes} (a : Goes) → r ≡ a → n ≡ zones → Sought home n ends p words froms r → Sought home zones ends p words froms a
-sought-at {home} {ends = ends} {p} {words} {froms} a e z s = subst₂ (λ (m : ℕ) (g : Goes). Sought home m ends p words froms g) z e s
+pub sought-at : {t : Track} {p words froms : List ℕ} {r : Goes} (a : Goes) → r ≡ a → Sought t p words froms r → Sought t p words froms a
+sought-at {t} {p} {words} {froms} a e s = subst (Sought t p words froms) e s
 
 -- one of the carriers left goes
-pub record OneGoes (home zones : ℕ) (ends follows order : List ℕ) (count : ℕ) (words₀ froms₀ free₀ p₀ plan₀ words froms free p plan : List ℕ) (left k : ℕ) (words′ froms′ : List ℕ) (zone place : ℕ) : Type 0 where
-  pub underway : Underway home zones ends follows order count words₀ froms₀ free₀ p₀ plan₀ words froms free p plan left k
+pub record OneGoes (t : Track) (follows order : List ℕ) (count : ℕ) (words₀ froms₀ free₀ p₀ plan₀ words froms free p plan : List ℕ) (left k : ℕ) (words′ froms′ : List ℕ) (zone place : ℕ) : Type 0 where
+  pub underway : Underway t follows order count words₀ froms₀ free₀ p₀ plan₀ words froms free p plan left k
   pub some-left : 0 < left
   pub same-words : length words′ ≡ length words
   pub same-froms : length froms′ ≡ length froms
-  pub sought : Sought home zones ends p words′ froms′ (From zone place)
+  pub sought : Sought t p words′ froms′ (From zone place)
 
-module _ {home zones : ℕ} {ends follows order : List ℕ} {count : ℕ} {words₀ froms₀ free₀ p₀ plan₀ words froms free p plan : List ℕ} {left k : ℕ} {words′ froms′ : List ℕ} {zone place : ℕ}
-    (x : OneGoes home zones ends follows order count words₀ froms₀ free₀ p₀ plan₀ words froms free p plan left k words′ froms′ zone place) where
-  abbrev u : Underway home zones ends follows order count words₀ froms₀ free₀ p₀ plan₀ words froms free p plan left k
+module _ {t : Track} {follows order : List ℕ} {count : ℕ} {words₀ froms₀ free₀ p₀ plan₀ words froms free p plan : List ℕ} {left k : ℕ} {words′ froms′ : List ℕ} {zone place : ℕ}
+    (x : OneGoes t follows order count words₀ froms₀ free₀ p₀ plan₀ words froms free p plan left k words′ froms′ zone place) where
+  abbrev u : Underway t follows order count words₀ froms₀ free₀ p₀ plan₀ words froms free p plan left k
   u = x .underway
-
-  abbrev track : Track
-  track = homeTrack home zones ends
 
   abbrev carrier : ℕ
   carrier = carrierOf (at p zone)
@@ -124,18 +115,22 @@ module _ {home zones : ℕ} {ends follows order : List ℕ} {count : ℕ} {words
   pub goes-blocks : length free ≡ 3
   goes-blocks = u .seeking .blocks
 
+  pub goes-number : at p zone < 131072
+  goes-number = u .carriers-small zone
+
   once : Once p
   once = u .seeking .once
 
-  one-entry : left * (2 + 2 * zones) ≡ (left - 1) * (2 + 2 * zones) + (2 + 2 * zones)
+  one-entry : left * (2 + 2 * t .zones) ≡ (left - 1) * (2 + 2 * t .zones) + (2 + 2 * t .zones)
   one-entry =
       let back : left ≡ suc (left - 1) = omega (arith, x .some-left) in
-      ap (λ (n : ℕ). n * (2 + 2 * zones)) back ∙ suc-mul (left - 1) (2 + 2 * zones)
+      ap (λ (n : ℕ). n * (2 + 2 * t .zones)) back ∙ suc-mul (left - 1) (2 + 2 * t .zones)
 
-  pub goes-entry : EntryRoom carrier place words′ froms′ plan k
-  goes-entry = record {
+  -- there is room for its entry, whatever number of 16 bits it is under, and from an earlier place on all the more
+  pub goes-entry : (c m : ℕ) → c < 65536 → m ≤ k → EntryRoom c place words′ froms′ plan m
+  goes-entry c m small early = record {
     readable = x .sought .given .readable;
-    number = omega (arith, u .numbers zone);
+    carrier-small = small;
     few = omega (arith, x .sought .given .few, u .seeking .tables .few);
     room = omega (arith, x .sought .given .few, one-entry, u .room, u .same-plan);
   }
@@ -143,8 +138,8 @@ module _ {home zones : ℕ} {ends follows order : List ℕ} {count : ℕ} {words
   stands : Stands p carrier (2 * zone + headingOf (at p zone))
   stands = held-stands p zone goes-inside (x .sought .given .numbered)
 
-  step : run track p ≡ record { plan = record { carrier = carrier; words = routeTo words′ froms′ place } ∷ run track (retire carrier p) .plan; last = run track (retire carrier p) .last }
-  step = run-step track p (sym (x .sought .entry)) (outs-retire-length carrier p once (_, stands))
+  step : run t p ≡ record { plan = record { carrier = carrier; words = routeTo words′ froms′ place } ∷ run t (retire carrier p) .plan; last = run t (retire carrier p) .last }
+  step = run-step t p (sym (x .sought .entry)) (outs-retire-length carrier p once (_, stands))
 
   freed : retire carrier p ≡ set p zone 0
   freed = retire-set once stands ∙ ap (λ (z : ℕ). set p z 0) (zone-word zone (headingOf (at p zone)) (heading-small (at p zone)))
@@ -166,7 +161,7 @@ module _ {home zones : ℕ} {ends follows order : List ℕ} {count : ℕ} {words
           u .seeking .free-words .has v ∙
           ap₂ (λ (n x : ℕ). ltb (zoneOf v) n && eqb x 0) (sym same) (sym (getD-set-other p zone (zoneOf v) 0 0 (eqb-false (zoneOf v) zone e)))
 
-  retired-seeking : {free′ : List ℕ} → ZoneAdded zone free free′ → length free′ ≡ length free → Seeking zones ends (retire carrier p) follows free′ order count words′ froms′
+  retired-seeking : {free′ : List ℕ} → ZoneAdded zone free free′ → length free′ ≡ length free → Seeking t (retire carrier p) follows free′ order count words′ froms′
   retired-seeking a b = record {
     tables = record { few = u .seeking .tables .few; each = length-without (eqb carrier) p ∙ u .seeking .tables .each; both = u .seeking .tables .both; rows = u .seeking .tables .rows; filled = u .seeking .tables .filled };
     blocks = b ∙ u .seeking .blocks;
@@ -179,11 +174,11 @@ module _ {home zones : ℕ} {ends follows order : List ℕ} {count : ℕ} {words
   }
 
   module _ {plan′ free′ : List ℕ} {r : ℕ} (w : EntryWritten carrier place words′ froms′ plan k plan′ r) (as-plan : length plan′ ≡ length plan) (added : ZoneAdded zone free free′) (as-free : length free′ ≡ length free) where
-    retired : Underway home zones ends follows order count words₀ froms₀ free₀ p₀ plan₀ words′ froms′ free′ (retire carrier p) plan′ (left - 1) r
+    retired : Underway t follows order count words₀ froms₀ free₀ p₀ plan₀ words′ froms′ free′ (retire carrier p) plan′ (left - 1) r
     unfolding planWords
     retired = record {
       seeking = retired-seeking added as-free;
-      numbers = λ z. ⊎-elim (λ e. rw e (u .numbers z)) (λ e. rw (e .1) (omega arith)) (without-cases (eqb carrier) p z);
+      carriers-small = λ z. ⊎-elim (λ e. rw e (u .carriers-small z)) (λ e. rw (e .1) (omega arith)) (without-cases (eqb carrier) p z);
       same-words = x .same-words ∙ u .same-words;
       same-froms = x .same-froms ∙ u .same-froms;
       same-free = as-free ∙ u .same-free;
@@ -194,7 +189,7 @@ module _ {home zones : ℕ} {ends follows order : List ℕ} {count : ℕ} {words
       here = length-append (u .written) entry ∙ ap (λ (n : ℕ). n + length entry) (u .here) ∙ sym (w .next);
       stored = stored;
       room = omega (arith, w .next, path-length (record { words = words′; froms = froms′ }) place, x .sought .given .few, one-entry, u .room);
-      rest-plan = append-assoc (u .written) entry (planOf track (retire carrier p)) ∙ ap (λ (y : Run). u .written ++ planWords (y .plan)) (sym step) ∙ u .rest-plan;
+      rest-plan = append-assoc (u .written) entry (planOf t (retire carrier p)) ∙ ap (λ (y : Run). u .written ++ planWords (y .plan)) (sym step) ∙ u .rest-plan;
       rest-last = ap (λ (y : Run). y .last) (sym step) ∙ u .rest-last;
     }
       where
@@ -211,5 +206,5 @@ module _ {home zones : ℕ} {ends follows order : List ℕ} {count : ℕ} {words
         stored : plan′ ≡ (u .written ++ entry) ++ drop r plan₀
         stored = w .stored ∙ ap₂ (λ (a b : List ℕ). a ++ (entry ++ b)) before beyond ∙ sym (append-assoc (u .written) entry (drop r plan₀))
 
-    pub goes-more : Underway home zones ends follows order count words₀ froms₀ free₀ p₀ plan₀ words′ froms′ free′ (set p zone 0) plan′ (left - 1) r
-    goes-more = subst (λ (y : Position). Underway home zones ends follows order count words₀ froms₀ free₀ p₀ plan₀ words′ froms′ free′ y plan′ (left - 1) r) freed retired
+    pub goes-more : Underway t follows order count words₀ froms₀ free₀ p₀ plan₀ words′ froms′ free′ (set p zone 0) plan′ (left - 1) r
+    goes-more = subst (λ (y : Position). Underway t follows order count words₀ froms₀ free₀ p₀ plan₀ words′ froms′ free′ y plan′ (left - 1) r) freed retired

@@ -4,7 +4,7 @@ use mathlib.Core.List.{List}
 use mathlib.Core.Path.{_≡_}
 use mathlib.Core.Option.{Option, none, some}
 use lib.ListN.{length}
-use Rattle.model.specs.Track.{Track, trackOf}
+use Rattle.model.specs.Track.{Track}
 use Rattle.model.specs.Position.{Position, at, carrierOf, Once, outs}
 use Rattle.rules.specs.Routes.{Entry}
 use Rattle.rules.specs.Key.{firstToGo}
@@ -15,20 +15,16 @@ use Rattle.queue.specs.Written.{routeTo, Readable}
 use Rattle.search.specs.declared.Goes.{Goes}
 use Rattle.search.specs.declared.Goes.the-variants.{From, Nobody}
 
--- a track but for its count of points, which no route depends on
-abbrev pub homeTrack : ℕ → ℕ → List ℕ → Track
-homeTrack home zones ends = trackOf 0 home zones ends
-
 -- what the search over the carriers asks: no carrier in two zones, no zone that holds number 1, the table, the words of the free zones, the order, and room
 -- for a queue of all words
-pub record Seeking (zones : ℕ) (ends p follows free order : List ℕ) (count : ℕ) (words froms : List ℕ) : Type 0 where
-  pub tables : BoardTable zones ends p follows
+pub record Seeking (t : Track) (p follows free order : List ℕ) (count : ℕ) (words froms : List ℕ) : Type 0 where
+  pub tables : BoardTable (t .zones) (t .ends) p follows
   pub blocks : length free ≡ 3
   pub free-words : FreeWords p free
   pub once : Once p
   pub free-heading : (z : ℕ) → at p z ≡ 1 → ⊥
-  pub room-words : 2 * zones ≤ length words
-  pub room-froms : 2 * zones ≤ length froms
+  pub room-words : 2 * t .zones ≤ length words
+  pub room-froms : 2 * t .zones ≤ length froms
   pub in-order : InOrder p order count
 
 -- the carrier of a zone with the route to a place of the queue, or none
@@ -49,6 +45,6 @@ GivenBy zones p words froms (From zone place) = Given zones p words froms zone p
 GivenBy zones p words froms Nobody = Unit {0}
 
 -- what it gives: the entry of the carrier that leaves next, or none
-pub record Sought (home zones : ℕ) (ends p words froms : List ℕ) (r : Goes) : Type 0 where
-  pub entry : entryGiven p words froms r ≡ firstToGo (homeTrack home zones ends) p (outs p)
-  pub given : GivenBy zones p words froms r
+pub record Sought (t : Track) (p words froms : List ℕ) (r : Goes) : Type 0 where
+  pub entry : entryGiven p words froms r ≡ firstToGo t p (outs p)
+  pub given : GivenBy (t .zones) p words froms r

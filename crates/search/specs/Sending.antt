@@ -1,34 +1,34 @@
--- Sending home all that can go, on a parsed track and position: what is asked, and what the plan and the position are then.
+-- Sending home all that can go: what is asked, and what the plan and the position are then.
 use Prim.Native.Nat.{ℕ, _+_, _*_, _≤_, _<_}
 use mathlib.Core.List.{List}
 use mathlib.Core.Path.{_≡_}
 use lib.ListN.{length}
 use Rattle.model.specs.Lists.{overwritten}
-use Rattle.model.specs.Track.{Track, trackOf}
+use Rattle.model.specs.Track.{Track}
 use Rattle.model.specs.Position.{Position, at, outs}
-use Rattle.model.specs.Accepted.{Parsed}
+use Rattle.model.specs.Accepted.{Bounded}
 use Rattle.rules.specs.Key.{run, planWords}
 use Rattle.search.specs.Leaving.{Seeking}
 
--- what `Parsed` says, carriers of 16 bits, and room for the plan of all of them
-pub record Sendable (points home zones : ℕ) (ends p plan : List ℕ) : Type 0 where
-  pub parsed : Parsed (trackOf points home zones ends) p
-  pub numbers : (z : ℕ) → at p z < 131072
-  pub room : length (outs p) * (2 + 2 * zones) ≤ length plan
+-- carriers of 16 bits, as the plan's words are, and room for the plan of all that are out
+pub record Sendable (t : Track) (p plan : List ℕ) : Type 0 where
+  pub bounded : Bounded t p
+  pub carriers-small : (z : ℕ) → at p z < 131072
+  pub room : length (outs p) * (2 + 2 * t .zones) ≤ length plan
 
 -- the same with the table and the set of the free zones' words made and the zones in order: what the rounds ask
-pub record Prepared (zones : ℕ) (ends p follows free order : List ℕ) (count : ℕ) (words froms plan : List ℕ) : Type 0 where
-  pub seeking : Seeking zones ends p follows free order count words froms
+pub record Prepared (t : Track) (p follows free order : List ℕ) (count : ℕ) (words froms plan : List ℕ) : Type 0 where
+  pub seeking : Seeking t p follows free order count words froms
   pub counted : count ≡ length (outs p)
-  pub numbers : (z : ℕ) → at p z < 131072
-  pub room : length (outs p) * (2 + 2 * zones) ≤ length plan
+  pub carriers-small : (z : ℕ) → at p z < 131072
+  pub room : length (outs p) * (2 + 2 * t .zones) ≤ length plan
 
 -- the words of the key's plan
 abbrev pub planOf : Track → Position → List ℕ
 planOf t p = planWords (run t p .plan)
 
 -- the plan's words are stored, the rest of the plan is as it was, and all that can go are gone
-pub record SentHome (points home zones : ℕ) (ends p plan p′ plan′ : List ℕ) (r : ℕ) : Type 0 where
-  pub count : r ≡ length (planOf (trackOf points home zones ends) p)
-  pub written : plan′ ≡ overwritten (planOf (trackOf points home zones ends) p) plan
-  pub last : p′ ≡ run (trackOf points home zones ends) p .last
+pub record SentHome (t : Track) (p plan p′ plan′ : List ℕ) (r : ℕ) : Type 0 where
+  pub counted : r ≡ length (planOf t p)
+  pub written : plan′ ≡ overwritten (planOf t p) plan
+  pub last : p′ ≡ run t p .last

@@ -1,5 +1,6 @@
 // The key's search: while any carrier can go home, the lowest-numbered that can leaves next, by its least route.
-ghost use lib.ListN.{length};
+use model::Head;
+ghost use Rattle.model.specs.Track.{trackOf};
 ghost use Rattle.search.specs.Leaving.{Seeking, Sought};
 ghost use Rattle.search.specs.Sending.{Sendable, Prepared, SentHome};
 
@@ -12,7 +13,7 @@ pub enum Goes {
 // The lowest-numbered carrier that can go home: the zones in `order` are in ascending number of their carriers; those that are free now are passed over.
 // Each carrier's search goes on until a word in the queue leaves at home, or none is left.
 fn first_to_go(
-    home: usize,
+    head: Head,
     ends: &[usize],
     position: &[u32],
     follows: &[u64],
@@ -22,8 +23,8 @@ fn first_to_go(
     words: &mut [usize],
     froms: &mut [usize],
 ) -> Goes
-    requires { ⌜ Seeking (length (now position)) (now ends) (now position) (now follows) (now free) (now order) count (now words) (now froms) ⌝ }
-    ensures { λ r. ⌜ Sought home (length (now (position .entry))) (now (ends .entry)) (now (position .entry)) (now (words .exit)) (now (froms .exit)) r ⌝ }
+    requires { ⌜ Seeking (trackOf head (now ends)) (now position) (now follows) (now free) (now order) count (now words) (now froms) ⌝ }
+    ensures { λ r. ⌜ Sought (trackOf head (now (ends .entry))) (now (position .entry)) (now (words .exit)) (now (froms .exit)) r ⌝ }
 {
     let mut k = 0;
     'carriers: loop {
@@ -39,14 +40,14 @@ fn first_to_go(
         let standing = 2 * zone + (held % 2) as usize;
         // What it may enter and has not found: the words of the free zones, and its own zone the other way, which is free once left.
         let mut enterable = [free[0], free[1], free[2]];
-        queue::sets::add(words::reverse(standing), &mut enterable);
+        queue::sets::add(word::reverse(standing), &mut enterable);
         words[0] = standing;
         froms[0] = 0;
         let mut found = 1;
         let mut i = 0;
         while i < found {
             let w = words[i];
-            if words::leaving(ends, w) == home {
+            if word::leaving(ends, w) == head.home {
                 break 'carriers Goes::From(zone, i);
             }
             found = queue::offers::offer_next(follows, w, i, found, words, froms, &mut enterable);
@@ -56,9 +57,9 @@ fn first_to_go(
 }
 
 // One round after another: the carrier that leaves next is taken off, its zone is free and its entry is stored, while any can go. Gives the
-// count of words stored. The contract's count of points is 0, for no route depends on it.
+// count of words stored.
 fn send_all(
-    home: usize,
+    head: Head,
     ends: &[usize],
     follows: &[u64],
     order: &[usize],
@@ -69,14 +70,14 @@ fn send_all(
     position: &mut [u32],
     plan: &mut [u16],
 ) -> usize
-    requires { ⌜ Prepared (length (now position)) (now ends) (now position) (now follows) (now free) (now order) count (now words) (now froms) (now plan) ⌝ }
-    ensures { λ r. ⌜ SentHome 0 home (length (now (position .entry))) (now (ends .entry)) (now (position .entry)) (now (plan .entry)) (now (position .exit)) (now (plan .exit)) r ⌝ }
+    requires { ⌜ Prepared (trackOf head (now ends)) (now position) (now follows) (now free) (now order) count (now words) (now froms) (now plan) ⌝ }
+    ensures { λ r. ⌜ SentHome (trackOf head (now (ends .entry))) (now (position .entry)) (now (plan .entry)) (now (position .exit)) (now (plan .exit)) r ⌝ }
 {
     let mut out = count;
     let mut at = 0;
     while 0 < out {
         let goes = first_to_go(
-            home,
+            head,
             ends,
             position,
             follows,
@@ -98,20 +99,13 @@ fn send_all(
 }
 
 // Sends home all that can go: the plan's words are stored, and each carrier that goes is taken off. Gives the count of words stored.
-pub fn send_home(
-    points: usize,
-    home: usize,
-    zones: usize,
-    ends: &[usize],
-    position: &mut [u32],
-    plan: &mut [u16],
-) -> usize
-    requires { ⌜ Sendable points home zones (now ends) (now position) (now plan) ⌝ }
-    ensures { λ r. ⌜ SentHome points home zones (now (ends .entry)) (now (position .entry)) (now (plan .entry)) (now (position .exit)) (now (plan .exit)) r ⌝ }
+pub fn send_home(head: Head, ends: &[usize], position: &mut [u32], plan: &mut [u16]) -> usize
+    requires { ⌜ Sendable (trackOf head (now ends)) (now position) (now plan) ⌝ }
+    ensures { λ r. ⌜ SentHome (trackOf head (now (ends .entry))) (now (position .entry)) (now (plan .entry)) (now (position .exit)) (now (plan .exit)) r ⌝ }
 {
     // Three blocks for each of 192 words.
     let mut follows = [0u64; 576];
-    queue::tables::fill_follows(zones, ends, &mut follows);
+    queue::tables::fill_follows(head.zones, ends, &mut follows);
     let mut free = [0u64; 3];
     queue::sets::add_free(position, &mut free);
     let mut order = [0usize; 96];
@@ -119,7 +113,7 @@ pub fn send_home(
     let mut words = [0usize; 192];
     let mut froms = [0usize; 192];
     send_all(
-        home,
+        head,
         ends,
         &follows,
         &order,

@@ -1,3 +1,3 @@
 pub mod Sizes
-pub mod KeyPages
 pub mod Pages
+pub mod KeyPages

@@ -14,9 +14,10 @@ use Rattle.order.proofs.Retired.{leaving-out}
 use Rattle.order.proofs.Sizes.{plan-fits, plan-entries, named-most}
 use Rattle.page.specs.Page.{pageOf, PAGE}
 use Rattle.page.proofs.Bound.{SmallEntry, SmallPage, page-of-fits}
-use Rattle.exam.specs.Parsed.{Ready}
+use Rattle.model.specs.Accepted.{Ready}
 use Rattle.exam.proofs.ReadyLaws.{few-out}
-use Rattle.exam.proofs.ReadBoard.{Bytes, ready-said}
+use Rattle.model.proofs.ReadingLaws.{ready-said}
+use Rattle.board.proofs.ReadBoard.{Bytes}
 
 verdict-small : (l : List ℕ) → verdictOf l < 1000
 verdict-small [] = omega arith
@@ -25,29 +26,29 @@ verdict-small (c ∷ d ∷ l) = omega arith
 
 module _ {t : Track} {p : Position} (ready : Ready t p) where
   out-small : {c : ℕ} → Out p c → c < 1000
-  out-small (w, s) = omega (arith, s .holds, ready .numbers (zoneOf w))
+  out-small (w, s) = omega (arith, s .holds, ready .limited (zoneOf w))
 
   entry-small : (e : Entry) → List·Memᴰ e (run t p .plan) → SmallEntry e
   entry-small e m =
-      let fits = plan-fits t p (ready .parsed .laid) e m in
+      let fits = plan-fits t p (ready .bounded .laid) e m in
       record {
-        carrier-small = out-small (leaving-out (run-retires t p (ready .parsed .laid)) (Memᴰ·map (λ f. f .carrier) m));
-        words-few = omega (arith, fits .short, ready .parsed .zones-most);
-        words-small = λ w k. omega (arith, fits .words-below w k, ready .parsed .zones-most);
+        carrier-small = out-small (leaving-out (run-retires t p (ready .bounded .laid)) (Memᴰ·map (λ f. f .carrier) m));
+        words-few = omega (arith, fits .short, ready .bounded .zones-most);
+        words-small = λ w k. omega (arith, fits .words-below w k, ready .bounded .zones-most);
       }
 
   pub small-page : SmallPage t p
   small-page =
       let few = few-out ready in
       record {
-        points-small = omega (arith, ready .parsed .points-most);
-        zones-small = omega (arith, ready .parsed .zones-most);
+        points-small = omega (arith, ready .bounded .points-most);
+        zones-small = omega (arith, ready .bounded .zones-most);
         out-small = omega arith;
         verdict-small = verdict-small (named t p);
-        entries-few = omega (arith, plan-entries t p (ready .parsed .laid));
+        entries-few = omega (arith, plan-entries t p (ready .bounded .laid));
         entries-small = entry-small;
-        blocked-few = omega (arith, named-most t p (ready .parsed .laid));
-        blocked-small = λ c m. out-small (named-out t p (ready .parsed .laid) m);
+        blocked-few = omega (arith, named-most t p (ready .bounded .laid));
+        blocked-small = λ c m. out-small (named-out t p (ready .bounded .laid) m);
       }
 
 -- so every page fits

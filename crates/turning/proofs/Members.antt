@@ -7,13 +7,13 @@ use mathlib.Core.Bool.{Bool, true, false, _||_}
 use native.Mathlib.Numerals.{add-one}
 use lib.Dec.{eqb}
 use borrow.Author.Tests.{eqb-true, eq-eqb, ne-eqb}
-use Rattle.model.specs.Lists.{any, below, count}
+use Rattle.model.specs.Lists.{anyOf, numbersBelow, howMany}
 use Rattle.model.proofs.BoolLaws.{or-right}
-use Rattle.model.proofs.ListLaws.{count-none}
-use Rattle.model.proofs.CountLaws.{count-one-more}
+use Rattle.model.proofs.ListLaws.{how-many-none}
+use Rattle.model.proofs.CountLaws.{how-many-one-more}
 
 abbrev pub elem : ℕ → List ℕ → Bool
-elem a l = any (eqb a) l
+elem a l = anyOf (eqb a) l
 
 -- a member of b ∷ l is b or a member of l
 pub elem-either : {A : Type 0} (a b : ℕ) (l : List ℕ) → elem a (b ∷ l) ≡ true → (a ≡ b → A) → (elem a l ≡ true → A) → A
@@ -29,9 +29,9 @@ elem-here b l = rw (eq-eqb b b refl)
 pub elem-there : (a b : ℕ) (l : List ℕ) → elem a l ≡ true → elem a (b ∷ l) ≡ true
 elem-there a b l e = or-right (eqb a b) (elem a l) e
 
-pub count-no-members : (n : ℕ) → count (λ a. elem a []) (below n) ≡ 0
-count-no-members n = count-none (λ a. elem a []) (below n) (λ a i. refl)
+pub count-no-members : (n : ℕ) → howMany (λ a. elem a []) (numbersBelow n) ≡ 0
+count-no-members n = how-many-none (λ a. elem a []) (numbersBelow n) (λ a i. refl)
 
 -- a new member is one more
-pub count-members : (b : ℕ) (l : List ℕ) (n : ℕ) → b < n → elem b l ≡ false → count (λ a. elem a (b ∷ l)) (below n) ≡ suc (count (λ a. elem a l) (below n))
-count-members b l n h e = count-one-more (λ a. elem a (b ∷ l)) (λ a. elem a l) n b h (elem-here b l) e (λ a i d. rw (ne-eqb a b d)) ∙ add-one _
+pub count-members : (b : ℕ) (l : List ℕ) (n : ℕ) → b < n → elem b l ≡ false → howMany (λ a. elem a (b ∷ l)) (numbersBelow n) ≡ suc (howMany (λ a. elem a l) (numbersBelow n))
+count-members b l n h e = how-many-one-more (λ a. elem a (b ∷ l)) (λ a. elem a l) n b h (elem-here b l) e (λ a i d. rw (ne-eqb a b d)) ∙ add-one _

@@ -7,7 +7,7 @@ use mathlib.Core.Bool.{Bool, true, false, true≢false}
 use mathlib.Core.Logic.{_⊎_, inl, inr}
 use native.Mathlib.Omega.{arith}
 use Rattle.model.specs.Track.{Track, zoneOf, rev, start, leave}
-use Rattle.turning.specs.Walks.{Apart, Walk, stay, go}
+use Rattle.turning.specs.Walks.{AnotherZone, Walk, stay, go}
 use Rattle.turning.proofs.Members.{elem, elem-either, elem-here, elem-there}
 use Rattle.model.proofs.WordLaws.{same-zone, zone-rev, rev-below, leave-rev}
 use Rattle.turning.proofs.WalkLaws.{widen, across}
@@ -17,8 +17,8 @@ abbrev pub among : List ℕ → ℕ → Bool
 among zs z = elem z zs
 
 -- p and q have a walk over the zones of a list
-abbrev pub Way : Track → List ℕ → ℕ → ℕ → Type 0
-Way t zs p q = (ws : List ℕ) × Walk t (among zs) p ws q
+abbrev pub WalkBetween : Track → List ℕ → ℕ → ℕ → Type 0
+WalkBetween t zs p q = (ws : List ℕ) × Walk t (among zs) p ws q
 
 -- from p a walk that is not empty comes back to it
 abbrev pub Turn : Track → List ℕ → ℕ → Type 0
@@ -36,7 +36,7 @@ module _ (t : Track) (zs : List ℕ) where
   pub widen-one : (z : ℕ) {p q : ℕ} {ws : List ℕ} → Walk t (among zs) p ws q → Walk t (among (z ∷ zs)) p ws q
   widen-one z k = widen t (among zs) (among (z ∷ zs)) (λ y j. elem-there y z zs j) k
 
-  pub widen-both : (z : ℕ) {p q : ℕ} → Way t zs p q × Way t zs q p → Way t (z ∷ zs) p q × Way t (z ∷ zs) q p
+  pub widen-both : (z : ℕ) {p q : ℕ} → WalkBetween t zs p q × WalkBetween t zs q p → WalkBetween t (z ∷ zs) p q × WalkBetween t (z ∷ zs) q p
   widen-both z r = ((r .0 .0, widen-one z (r .0 .1)), (r .1 .0, widen-one z (r .1 .1)))
 
   module _ (w : ℕ) (h : w < 2 * t .zones) (new : elem (zoneOf w) zs ≡ false) where
@@ -44,13 +44,13 @@ module _ (t : Track) (zs : List ℕ) where
     walk-over : {p r : ℕ} {ws vs : List ℕ} → Walk t (among zs) p ws (start t w) → Walk t (among zs) (leave t w) vs r → Walk t (among (zoneOf w ∷ zs)) p (ws ++ (w ∷ vs)) r
     walk-over a b = across t (among zs) (among (zoneOf w ∷ zs)) (λ y j. elem-there y (zoneOf w) zs j) w h (elem-here (zoneOf w) zs) new refl a b
 
-    pub way-over : {p : ℕ} → Way t zs p (start t w) → Way t (zoneOf w ∷ zs) p (leave t w)
+    pub way-over : {p : ℕ} → WalkBetween t zs p (start t w) → WalkBetween t (zoneOf w ∷ zs) p (leave t w)
     way-over a = (a .0 ++ (w ∷ []), walk-over (a .1) stay)
 
-    pub turn-over : {p : ℕ} → Way t zs p (start t w) → Way t zs (leave t w) p → Turn t (zoneOf w ∷ zs) p
+    pub turn-over : {p : ℕ} → WalkBetween t zs p (start t w) → WalkBetween t zs (leave t w) p → Turn t (zoneOf w ∷ zs) p
     turn-over a b = (a .0 ++ (w ∷ b .0), walk-over (a .1) (b .1), not-empty (a .0) (b .0) w)
 
-  pub way-back : (w : ℕ) → w < 2 * t .zones → elem (zoneOf w) zs ≡ false → {p : ℕ} → Way t zs (start t w) p → Way t (zoneOf w ∷ zs) (leave t w) p
+  pub way-back : (w : ℕ) → w < 2 * t .zones → elem (zoneOf w) zs ≡ false → {p : ℕ} → WalkBetween t zs (start t w) p → WalkBetween t (zoneOf w ∷ zs) (leave t w) p
   way-back w h new {p} a = (rev w ∷ a .0, rw zone-rev at r)
     where
       b : Walk t (among zs) (leave t (rev w)) (a .0) p
@@ -61,7 +61,7 @@ module _ (t : Track) (zs : List ℕ) where
 
   -- w leads to a point where no zone of the list ends: walks between other points don't use it
   module _ (w : ℕ) (dead-end : (u : ℕ) → elem (zoneOf u) zs ≡ true → start t u ≡ leave t w → ⊥) where
-    no-way-out : {q : ℕ} {ws : List ℕ} (u : ℕ) → zoneOf u ≡ zoneOf w → Apart u ws → Walk t (among (zoneOf w ∷ zs)) (leave t w) ws q → q ≡ leave t w
+    no-way-out : {q : ℕ} {ws : List ℕ} (u : ℕ) → zoneOf u ≡ zoneOf w → AnotherZone u ws → Walk t (among (zoneOf w ∷ zs)) (leave t w) ws q → q ≡ leave t w
     no-way-out u c a stay = refl
     no-way-out u c a (go x h e s b k) = absurd (elem-either (zoneOf x) (zoneOf w) zs e (λ d. a (d ∙ sym c)) (λ j. dead-end x j s))
 

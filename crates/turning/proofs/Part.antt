@@ -12,7 +12,7 @@ use Rattle.model.proofs.BoolLaws.{both-ways, not-true-false}
 use Rattle.turning.specs.Walks.{Walk, stay}
 use Rattle.turning.proofs.Members.{elem, elem-either, elem-here, elem-there}
 use Rattle.model.proofs.WordLaws.{same-zone, zone-rev}
-use Rattle.turning.proofs.OneMore.{among, Way, Turn, empty-over-none, widen-one, widen-both, way-over, way-back, turn-over, walks-avoid}
+use Rattle.turning.proofs.OneMore.{among, WalkBetween, Turn, empty-over-none, widen-one, widen-both, way-over, way-back, turn-over, walks-avoid}
 
 -- the zones and the points so far
 pub data Part (t : Track) (passes : ℕ → Bool) (v : ℕ) : List ℕ → List ℕ → Type 0 where
@@ -57,7 +57,7 @@ module _ {t : Track} {passes : ℕ → Bool} {v : ℕ} where
   enough (both-inside w h e s l n k) = let r = enough k in omega arith
 
   -- within the part there is a walk from its first point to each of its points and back
-  pub ways : {zs ps : List ℕ} → Part t passes v zs ps → (q : ℕ) → elem q ps ≡ true → Way t zs v q × Way t zs q v
+  pub ways : {zs ps : List ℕ} → Part t passes v zs ps → (q : ℕ) → elem q ps ≡ true → WalkBetween t zs v q × WalkBetween t zs q v
   ways alone q i = elem-either q v [] i (λ c. rw c (([], stay), ([], stay))) (λ j. both-ways j refl)
   ways (new-point {zs} {ps} w h e s n k) q i =
       let new = zone-new k w n in

@@ -10,18 +10,18 @@ use lib.ListN.{length}
 use Rattle.model.specs.Track.{Track, Linked, start}
 use Rattle.model.proofs.WordLaws.{zone-first, first-below}
 use Rattle.model.proofs.BoolLaws.{and-left, and-right, same-test}
-use Rattle.model.proofs.CountLaws.{count-below-ext}
+use Rattle.model.proofs.CountLaws.{how-many-below-ext}
 use Rattle.turning.specs.Walks.{Walk, pointsWithin, zonesWithin}
 use Rattle.turning.proofs.Members.{elem}
 use Rattle.turning.proofs.WalkLaws.{widen}
 use Rattle.turning.proofs.OneMore.{among}
 use Rattle.turning.proofs.Part.{first-inside, zones-pass, ends-inside, enough, turn, no-turn}
-use Rattle.turning.proofs.Whole.{Whole, whole, zones-counted, points-counted, linked-inside, inside-linked, walks-inside}
+use Rattle.turning.proofs.Whole.{WholePart, whole, zones-counted, points-counted, linked-inside, inside-linked, walks-inside}
 
 module _ (t : Track) (inside : (w : ℕ) → w < 2 * t .zones → start t w < t .points) (passes : ℕ → Bool)
     (v : ℕ) (v-inside : v < t .points) (within : ℕ → Bool)
     (agrees : (q : ℕ) → q < t .points → (within q ≡ true) ↔ Linked t (λ z. passes z ≡ true) v q) where
-  grown : Whole t passes v
+  grown : WholePart t passes v
   grown = whole t passes v
 
   same-points : (q : ℕ) → q < t .points → within q ≡ elem q (grown .points)
@@ -50,10 +50,10 @@ module _ (t : Track) (inside : (w : ℕ) → w < 2 * t .zones → start t w < t 
           rw (p, s)
 
   points-of-part : pointsWithin t within ≡ length (grown .points)
-  points-of-part = count-below-ext within (among (grown .points)) (t .points) same-points ∙ points-counted v-inside inside (grown .part)
+  points-of-part = how-many-below-ext within (among (grown .points)) (t .points) same-points ∙ points-counted v-inside inside (grown .part)
 
   zones-of-part : zonesWithin t passes within ≡ length (grown .zones)
-  zones-of-part = count-below-ext (λ z. passes z && within (start t (2 * z))) (among (grown .zones)) (t .zones) same-zones ∙ zones-counted (grown .part)
+  zones-of-part = how-many-below-ext (λ z. passes z && within (start t (2 * z))) (among (grown .zones)) (t .zones) same-zones ∙ zones-counted (grown .part)
 
   -- a part has at least points - 1 zones
   pub zones-enough : pointsWithin t within ≤ zonesWithin t passes within + 1

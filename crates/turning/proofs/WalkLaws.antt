@@ -8,11 +8,11 @@ use mathlib.Core.Logic.{_⊎_, inl, inr}
 use lib.Dec.{eqb}
 use borrow.Author.Tests.{eqb-true, eqb-false}
 use Rattle.model.specs.Track.{Track, Linked, here, over, zoneOf, rev, start, leave}
-use Rattle.turning.specs.Walks.{Apart, Walk, stay, go}
+use Rattle.turning.specs.Walks.{AnotherZone, Walk, stay, go}
 use Rattle.model.proofs.WordLaws.{same-zone, leave-rev}
 
 -- a word of a zone that does not pass stands apart from every walk
-pub apart-outside : {t : Track} {passes : ℕ → Bool} {p q : ℕ} {vs : List ℕ} (w : ℕ) → passes (zoneOf w) ≡ false → Walk t passes p vs q → Apart w vs
+pub apart-outside : {t : Track} {passes : ℕ → Bool} {p q : ℕ} {vs : List ℕ} (w : ℕ) → passes (zoneOf w) ≡ false → Walk t passes p vs q → AnotherZone w vs
 apart-outside w n stay = tt
 apart-outside w n (go u h e s a k) = λ c. true≢false (cc)
 
@@ -22,7 +22,7 @@ module _ (t : Track) (f g : ℕ → Bool) (wider : (z : ℕ) → f z ≡ true �
   widen stay = stay
   widen (go w h e s a k) = go w h (wider (zoneOf w) e) s a (widen k)
 
-  apart-within : {p q : ℕ} {ws : List ℕ} (u w : ℕ) (vs : List ℕ) → f (zoneOf u) ≡ true → f (zoneOf w) ≡ false → Apart u ws → Walk t f p ws q → Apart u (ws ++ (w ∷ vs))
+  apart-within : {p q : ℕ} {ws : List ℕ} (u w : ℕ) (vs : List ℕ) → f (zoneOf u) ≡ true → f (zoneOf w) ≡ false → AnotherZone u ws → Walk t f p ws q → AnotherZone u (ws ++ (w ∷ vs))
   apart-within u w vs e n a stay = λ c. true≢false (cc)
   apart-within u w vs e n a (go x h d s b k) = a
 

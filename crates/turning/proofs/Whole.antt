@@ -8,11 +8,11 @@ use mathlib.Core.Logic.{_⊎_, inl, inr}
 use native.Mathlib.Omega.{arith}
 use lib.ListN.{length}
 use borrow.Author.Tests.{not-true, not-false}
-use Rattle.model.specs.Lists.{any, below, count}
+use Rattle.model.specs.Lists.{anyOf, numbersBelow, howMany}
 use Rattle.model.specs.Track.{Track, Linked, here, over, zoneOf, rev, start, leave}
 use Rattle.model.proofs.BoolLaws.{and-left, and-right}
 use Rattle.model.proofs.ListLaws.{any-below, any-below-false}
-use Rattle.model.proofs.CountLaws.{count-below}
+use Rattle.model.proofs.CountLaws.{how-many-below}
 use Rattle.turning.specs.Walks.{Walk, stay, go}
 use Rattle.turning.proofs.Members.{elem, count-no-members, count-members}
 use Rattle.model.proofs.WordLaws.{zone-rev, zone-below, rev-below}
@@ -22,19 +22,19 @@ use Rattle.turning.proofs.Part.{Part, alone, new-point, both-inside, en
 
 module _ {t : Track} {passes : ℕ → Bool} {v : ℕ} where
   -- no zone comes in twice
-  pub zones-counted : {zs ps : List ℕ} → Part t passes v zs ps → count (among zs) (below (t .zones)) ≡ length zs
+  pub zones-counted : {zs ps : List ℕ} → Part t passes v zs ps → howMany (among zs) (numbersBelow (t .zones)) ≡ length zs
   zones-counted alone = count-no-members (t .zones)
   zones-counted (new-point {zs} w h e s n k) = count-members (zoneOf w) zs (t .zones) (zone-below (t .zones) w h) (zone-new k w n) ∙ ap suc (zones-counted k)
   zones-counted (both-inside {zs} w h e s l n k) = count-members (zoneOf w) zs (t .zones) (zone-below (t .zones) w h) n ∙ ap suc (zones-counted k)
 
   -- no point comes in twice
-  pub points-counted : {zs ps : List ℕ} → v < t .points → ((w : ℕ) → w < 2 * t .zones → start t w < t .points) → Part t passes v zs ps → count (among ps) (below (t .points)) ≡ length ps
+  pub points-counted : {zs ps : List ℕ} → v < t .points → ((w : ℕ) → w < 2 * t .zones → start t w < t .points) → Part t passes v zs ps → howMany (among ps) (numbersBelow (t .points)) ≡ length ps
   points-counted b inside alone = count-members v [] (t .points) b refl ∙ ap suc (count-no-members (t .points))
   points-counted b inside (new-point {ps} w h e s n k) = count-members (leave t w) ps (t .points) (inside (rev w) (rev-below (t .zones) w h)) n ∙ ap suc (points-counted b inside k)
   points-counted b inside (both-inside w h e s l n k) = points-counted b inside k
 
 -- a part with every passing zone that touches it
-pub record Whole (t : Track) (passes : ℕ → Bool) (v : ℕ) : Type 0 where
+pub record WholePart (t : Track) (passes : ℕ → Bool) (v : ℕ) : Type 0 where
   pub zones : List ℕ
   pub points : List ℕ
   pub part : Part t passes v zones points
@@ -66,22 +66,22 @@ module _ (t : Track) (passes : ℕ → Bool) (v : ℕ) where
     all-in w e p s = not-false (elem (zoneOf w) zs) (rw (p, s) at e)
 
     -- one zone more, or all are in
-    step : (b : Bool) → any (touches t passes zs ps) (below (2 * t .zones)) ≡ b → Bigger zs ⊎ Whole t passes v
+    step : (b : Bool) → anyOf (touches t passes zs ps) (numbersBelow (2 * t .zones)) ≡ b → Bigger zs ⊎ WholePart t passes v
     step true e = let r = any-below (touches t passes zs ps) (2 * t .zones) e in inl (add-touching (r .0) (r .1) (r .2))
     step false e = inr (record { zones = zs; points = ps; part = k; complete = λ w h. all-in w (any-below-false (touches t passes zs ps) (2 * t .zones) e w h) })
 
-  grow : (n : ℕ) (zs ps : List ℕ) → Part t passes v zs ps → t .zones < n + length zs → Whole t passes v
-  grow zero zs ps k m = let a = zones-counted k in let b = count-below (among zs) (t .zones) in absurd (omega arith)
-  grow (suc n) zs ps k m = on (step k (any (touches t passes zs ps) (below (2 * t .zones))) refl) (λ ys qs r. grow n ys qs r)
+  grow : (n : ℕ) (zs ps : List ℕ) → Part t passes v zs ps → t .zones < n + length zs → WholePart t passes v
+  grow zero zs ps k m = let a = zones-counted k in let b = how-many-below (among zs) (t .zones) in absurd (omega arith)
+  grow (suc n) zs ps k m = on (step k (anyOf (touches t passes zs ps) (numbersBelow (2 * t .zones))) refl) (λ ys qs r. grow n ys qs r)
     where
-      on : Bigger zs ⊎ Whole t passes v → ((ys qs : List ℕ) → Part t passes v ys qs → t .zones < n + length ys → Whole t passes v) → Whole t passes v
+      on : Bigger zs ⊎ WholePart t passes v → ((ys qs : List ℕ) → Part t passes v ys qs → t .zones < n + length ys → WholePart t passes v) → WholePart t passes v
       on (inl s) rest = let e = s .3 in rest (s .0) (s .1) (s .2) (omega arith)
       on (inr s) rest = s
 
-  pub whole : Whole t passes v
+  pub whole : WholePart t passes v
   whole = grow (suc (t .zones)) [] (v ∷ []) alone (omega arith)
 
-module _ {t : Track} {passes : ℕ → Bool} {v : ℕ} (x : Whole t passes v) where
+module _ {t : Track} {passes : ℕ → Bool} {v : ℕ} (x : WholePart t passes v) where
   -- no passing zone leads out of it
   leaves-inside : (w : ℕ) → w < 2 * t .zones → passes (zoneOf w) ≡ true → elem (start t w) (x .points) ≡ true → elem (leave t w) (x .points) ≡ true
   leaves-inside w h e i = ends-inside (x .part) (rev w) (rw zone-rev (x .complete w h e i))

@@ -5,8 +5,7 @@ use native.Mathlib.Omega.{arith}
 use lib.Seq.{length-take-le}
 use borrow.Author.Needs.{needs}
 use denote.Ref.{now}
-use Rattle.board.proofs.GivenLaws.{said}
-use Rattle.exam.proofs.ReadBoard.{Bytes, few-zones, words-in, zones-in, ready-read}
+use Rattle.board.proofs.ReadBoard.{said, Bytes, words-in, zones-in, ready-read}
 use Rattle.exam.proofs.CollapsePromised.{collapse-turned-back, collapse-promised}
 use Rattle.exam.proofs.collapse.Statement.{statement}
 use Rattle.exam.proofs.collapse.Tie as tie
@@ -27,24 +26,24 @@ read-into-requires c κs = search needs
 returns : tie.Need-returns
 returns c = collapse-turned-back _ _ (c .before .before .before .read-into .ensures) (c .if1 .taken)
 
-mul-words : tie.Need-mul-words
-mul-words c = omega (arith, few-zones (said (c .before .before .before .read-into .ensures) (c .if1 .left)))
+mul-ends-count : tie.Need-mul-ends-count
+mul-ends-count c = omega (arith, said (c .before .before .before .before .read-into .ensures) (c .before .if1 .left) .few-zones)
 
 array-share-prefix-ends : tie.Need-array-share-prefix-ends
-array-share-prefix-ends c = words-in (said (c .before .before .before .read-into .ensures) (c .if1 .left))
+array-share-prefix-ends c = words-in (said (c .before .before .before .before .read-into .ensures) (c .before .if1 .left))
 
 slice-aggregate-collapse : tie.Need-slice-aggregate-collapse
 slice-aggregate-collapse c = sym (length-take-le _ _ (array-share-prefix-ends (c .before)))
 
 array-borrow-prefix-position : tie.Need-array-borrow-prefix-position
-array-borrow-prefix-position c = zones-in (said (c .before .before .before .before .read-into .ensures) (c .before .if1 .left))
+array-borrow-prefix-position c = zones-in (said (c .before .before .before .before .before .read-into .ensures) (c .before .before .if1 .left))
 
 slice-aggregate-collapse-2 : tie.Need-slice-aggregate-collapse-2
 slice-aggregate-collapse-2 c = sym (length-take-le _ _ (array-borrow-prefix-position (c .before)))
 
 collapse-requires : tie.Need-collapse-requires
 collapse-requires c κs =
-    let read = c .before .before .before in
+    let read = c .before .before .before .before in
     ready-read (said (read .before .before .before .read-into .ensures) (read .if1 .left)) (bytes (read .before .before .before))
 
 same-length : tie.Need-same-length
@@ -53,8 +52,8 @@ same-length c = search needs
 returns-2 : tie.Need-returns-2
 returns-2 c =
     let called = c .before .before .before in
-    let read = called .before .before .before .before in
-    collapse-promised (bytes (read .before .before .before)) (said (read .before .before .before .read-into .ensures) (read .if1 .left)) (called .collapse .ensures)
+    let read = called .before .before .before .before .before in
+    collapse-promised (bytes (read .before .before .before)) (said (read .before .before .before .read-into .ensures) (read .if1 .left)) (called .collapse .ensures .0)
 
 pub collapse-spec : {M : Type 1} → statement M
 collapse-spec =
@@ -64,7 +63,7 @@ collapse-spec =
     slice-aggregate-read-into-2
     read-into-requires
     returns
-    mul-words
+    mul-ends-count
     array-share-prefix-ends
     slice-aggregate-collapse
     array-borrow-prefix-position

@@ -5,9 +5,8 @@ use native.Mathlib.Omega.{arith}
 use lib.Seq.{length-take-le}
 use borrow.Author.Needs.{needs}
 use denote.Ref.{now}
-use Rattle.board.proofs.GivenLaws.{said}
-use Rattle.exam.proofs.ReadBoard.{Bytes, few-zones, words-in, zones-in, ready-read}
-use Rattle.exam.proofs.KeyPromised.{key-turned-back, key-promised}
+use Rattle.board.proofs.ReadBoard.{said, Bytes, words-in, zones-in, ready-read}
+use Rattle.exam.proofs.KeyPromised.{key-turned-back, key-promised, summary-turned-back, summary-promised}
 use Rattle.exam.proofs.key.Statement.{statement}
 use Rattle.exam.proofs.key.Tie as tie
 
@@ -25,26 +24,28 @@ read-into-requires : tie.Need-read-into-requires
 read-into-requires c κs = search needs
 
 returns : tie.Need-returns
-returns c = key-turned-back _ _ _ (c .before .before .before .read-into .ensures) (c .if1 .taken)
+returns c =
+    let read = c .before .before .before .read-into .ensures in
+    (key-turned-back _ _ _ read (c .if1 .taken), summary-turned-back _ read (c .if1 .taken))
 
-mul-words : tie.Need-mul-words
-mul-words c = omega (arith, few-zones (said (c .before .before .before .read-into .ensures) (c .if1 .left)))
+mul-ends-count : tie.Need-mul-ends-count
+mul-ends-count c = omega (arith, said (c .before .before .before .before .read-into .ensures) (c .before .if1 .left) .few-zones)
 
 array-share-prefix-ends : tie.Need-array-share-prefix-ends
-array-share-prefix-ends c = words-in (said (c .before .before .before .read-into .ensures) (c .if1 .left))
+array-share-prefix-ends c = words-in (said (c .before .before .before .before .read-into .ensures) (c .before .if1 .left))
 
 slice-aggregate-key : tie.Need-slice-aggregate-key
 slice-aggregate-key c = sym (length-take-le _ _ (array-share-prefix-ends (c .before)))
 
 array-borrow-prefix-position : tie.Need-array-borrow-prefix-position
-array-borrow-prefix-position c = zones-in (said (c .before .before .before .before .read-into .ensures) (c .before .if1 .left))
+array-borrow-prefix-position c = zones-in (said (c .before .before .before .before .before .read-into .ensures) (c .before .before .if1 .left))
 
 slice-aggregate-key-2 : tie.Need-slice-aggregate-key-2
 slice-aggregate-key-2 c = sym (length-take-le _ _ (array-borrow-prefix-position (c .before)))
 
 key-requires : tie.Need-key-requires
 key-requires c κs =
-    let read = c .before .before .before .before in
+    let read = c .before .before .before .before .before in
     ready-read (said (read .before .before .before .read-into .ensures) (read .if1 .left)) (bytes (read .before .before .before))
 
 same-length : tie.Need-same-length
@@ -56,8 +57,9 @@ same-length-2 c = search needs
 returns-2 : tie.Need-returns-2
 returns-2 c =
     let called = c .before .before .before .before .before in
-    let read = called .before .before .before .before .before in
-    key-promised (bytes (read .before .before .before)) (said (read .before .before .before .read-into .ensures) (read .if1 .left)) (called .key .ensures)
+    let read = called .before .before .before .before .before .before in
+    let s = said (read .before .before .before .read-into .ensures) (read .if1 .left) in
+    (key-promised (bytes (read .before .before .before)) s (called .key .ensures .0), summary-promised (called .key .result .verdict) s (called .key .ensures .1 .0))
 
 pub key-spec : {M : Type 1} → statement M
 key-spec =
@@ -67,7 +69,7 @@ key-spec =
     slice-aggregate-read-into-2
     read-into-requires
     returns
-    mul-words
+    mul-ends-count
     array-share-prefix-ends
     slice-aggregate-key
     array-borrow-prefix-position

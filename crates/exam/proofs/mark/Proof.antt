@@ -1,12 +1,11 @@
 -- `mark` keeps its promise: a refused board gives its number, and on any other the inner marker answers on what was read.
--- From the contracts of `read_into` and `parsed::mark`: what was read is ready, and each return is a law of MarkPromised.
+-- From the contracts of `read_into` and `sheet::mark`: what was read is ready, and each return is a law of MarkPromised.
 use mathlib.Core.Path.{sym}
 use native.Mathlib.Omega.{arith}
 use lib.Seq.{length-take-le}
 use borrow.Author.Needs.{needs}
 use denote.Ref.{now}
-use Rattle.board.proofs.GivenLaws.{said}
-use Rattle.exam.proofs.ReadBoard.{Bytes, few-zones, words-in, zones-in, ready-read}
+use Rattle.board.proofs.ReadBoard.{said, Bytes, words-in, zones-in, ready-read}
 use Rattle.exam.proofs.MarkPromised.{mark-turned-back, mark-promised}
 use Rattle.exam.proofs.mark.Statement.{statement}
 use Rattle.exam.proofs.mark.Tie as tie
@@ -27,30 +26,30 @@ read-into-requires c κs = search needs
 returns : tie.Need-returns
 returns c = mark-turned-back _ _ (c .before .before .before .read-into .ensures) (c .if1 .taken)
 
-mul-words : tie.Need-mul-words
-mul-words c = omega (arith, few-zones (said (c .before .before .before .read-into .ensures) (c .if1 .left)))
+mul-ends-count : tie.Need-mul-ends-count
+mul-ends-count c = omega (arith, said (c .before .before .before .before .read-into .ensures) (c .before .if1 .left) .few-zones)
 
 array-share-prefix-ends : tie.Need-array-share-prefix-ends
-array-share-prefix-ends c = words-in (said (c .before .before .before .read-into .ensures) (c .if1 .left))
+array-share-prefix-ends c = words-in (said (c .before .before .before .before .read-into .ensures) (c .before .if1 .left))
 
 slice-aggregate-mark : tie.Need-slice-aggregate-mark
 slice-aggregate-mark c = sym (length-take-le _ _ (array-share-prefix-ends (c .before)))
 
 array-borrow-prefix-position : tie.Need-array-borrow-prefix-position
-array-borrow-prefix-position c = zones-in (said (c .before .before .before .before .read-into .ensures) (c .before .if1 .left))
+array-borrow-prefix-position c = zones-in (said (c .before .before .before .before .before .read-into .ensures) (c .before .before .if1 .left))
 
 slice-aggregate-mark-2 : tie.Need-slice-aggregate-mark-2
 slice-aggregate-mark-2 c = sym (length-take-le _ _ (array-borrow-prefix-position (c .before)))
 
 mark-requires : tie.Need-mark-requires
 mark-requires c κs =
-    let read = c .before .before in
+    let read = c .before .before .before in
     ready-read (said (read .before .before .before .read-into .ensures) (read .if1 .left)) (bytes (read .before .before .before))
 
 returns-2 : tie.Need-returns-2
 returns-2 c =
     let called = c .before in
-    let read = called .before .before .before in
+    let read = called .before .before .before .before in
     mark-promised (bytes (read .before .before .before)) (said (read .before .before .before .read-into .ensures) (read .if1 .left)) (called .mark .ensures)
 
 pub mark-spec : {M : Type 1} → statement M
@@ -61,7 +60,7 @@ mark-spec =
     slice-aggregate-read-into-2
     read-into-requires
     returns
-    mul-words
+    mul-ends-count
     array-share-prefix-ends
     slice-aggregate-mark
     array-borrow-prefix-position

@@ -4,6 +4,7 @@ use Prim.Native.Nat.{_+_, _*_, _<_}
 use mathlib.Core.Path.{refl}
 use native.Mathlib.Omega.{arith}
 use lib.ListN.{length-set}
+use Rattle.model.specs.Track.{trackOf}
 use Rattle.marker.specs.Marked.{Markable}
 use Rattle.marker.proofs.EntryLaws.{WholeEntry, short-fails, empty-fails, past-fails, out-fails, standing-fails, route-fails, route-passes, stands-below, standing}
 use Rattle.marker.proofs.mark_entry.Statement.{statement}
@@ -11,16 +12,16 @@ use Rattle.marker.proofs.mark_entry.Tie as tie
 
 -- past the tests of 30 the entry has its count of words
 whole : (c : tie.Else3) → WholeEntry (c .before .before .before .before .before .before .before .args .sheet .now) (c .before .before .before .before .before .before .before .args .place)
-whole c = record { two = c .before .before .before .if1 .left; some = c .before .if2 .left; fits = c .if3 .left }
+whole c = record { two = c .before .before .before .if1 .left; has-words = c .before .if2 .left; fits = c .if3 .left }
 
 abbrev start : tie.Else4 → tie.Start
 start c = c .before .before .before .before .before .before .before .before .before .before .before .before
 
 -- past the standing's test
-markable : (c : tie.Else4) → Markable (start c .args .zones) (start c .args .ends .now) (start c .args .position .now)
+markable : (c : tie.Else4) → Markable (trackOf (start c .args .head) (start c .args .ends .now)) (start c .args .position .now)
 markable c = start c .pre .0
 
-below : (c : tie.Else4) → standing (start c .args .sheet .now) (start c .args .place) < 2 * start c .args .zones
+below : (c : tie.Else4) → standing (start c .args .sheet .now) (start c .args .place) < 2 * start c .args .head .zones
 below c = stands-below _ _ _ _ (c .before .stands .ensures) (c .if4 .left)
 
 sub-left : tie.Need-sub-left
@@ -108,7 +109,7 @@ same-length-3 c = refl
 returns-6 : tie.Need-returns-6
 returns-6 c =
     let d = c .before .before .before in
-    route-fails (whole (d .before .before .before .before .before)) (markable d .each) (d .before .stands .ensures) (d .if4 .left) (c .before .mark-route .ensures) (c .if6 .taken)
+    route-fails (whole (d .before .before .before .before .before)) (markable d) (d .before .stands .ensures) (d .if4 .left) (c .before .mark-route .ensures) (c .if6 .taken)
 
 mul-position : tie.Need-mul-position
 mul-position c = let d = c .before .before .before in let b = below d in let r = markable d in omega arith

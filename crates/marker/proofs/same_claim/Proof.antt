@@ -1,5 +1,5 @@
--- `marker::same_claim` meets its contract: whether the sheet's words from `from` on are the list's first `count` numbers.
--- The invariant: what is left of the claim and of the list compare as the whole does. The measure is how many numbers are left.
+-- `marker::same_claim` meets its contract: whether the sheet's words from `from` on are the list's first `count` carriers.
+-- The invariant: what is left of the claim and of the list compare as the whole does. The measure is how many carriers are left.
 use Prim.Native.Nat.{_-_}
 use mathlib.Core.Path.{sym}
 use native.Mathlib.Omega.{arith}
@@ -33,11 +33,11 @@ mul-word c = omega arith
 shared-slice-read-word : tie.Need-shared-slice-read-word Inv-loop μ-loop
 shared-slice-read-word c = omega arith
 
-shared-slice-read-number : tie.Need-shared-slice-read-number Inv-loop μ-loop
-shared-slice-read-number c = omega arith
+shared-slice-read-carrier : tie.Need-shared-slice-read-carrier Inv-loop μ-loop
+shared-slice-read-carrier c = omega arith
 
-cast-number : tie.Need-cast-number Inv-loop μ-loop
-cast-number c = omega (arith, c .shared-slice-known2 .given (c .before .before .before .loop .i))
+cast-carrier : tie.Need-cast-carrier Inv-loop μ-loop
+cast-carrier c = omega (arith, c .shared-slice-known2 .given (c .before .before .before .loop .i))
 
 returns-2 : tie.Need-returns-2 Inv-loop μ-loop
 returns-2 c = sym (numbers-differ (c .before .before .before .before .loop .inv) (c .before .before .before .before .before .before .pre .0) (c .before .before .before .loop-test .taken) (c .if2 .taken))
@@ -66,8 +66,8 @@ same-claim-spec =
     add-word
     mul-word
     shared-slice-read-word
-    shared-slice-read-number
-    cast-number
+    shared-slice-read-carrier
+    cast-carrier
     returns-2
     add-i
     loop-less

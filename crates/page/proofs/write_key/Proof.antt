@@ -8,32 +8,32 @@ use lib.Seq.{length-take-le}
 use Rattle.rules.specs.Routes.{Entry}
 use Rattle.page.specs.Page.{keyPage}
 use Rattle.page.specs.Writing.{entriesIn}
-use Rattle.page.proofs.PutLaws.{Going, room-left, goes-on, ends, begins}
+use Rattle.page.proofs.PutLaws.{Putting, room-left, goes-on, ends, begins}
 use Rattle.page.proofs.PagePut.{keyPieces, key-starts}
 use Rattle.page.proofs.write_key.Statement.{statement}
 use Rattle.page.proofs.write_key.Tie as tie
 
 -- the entries and the list that are given
 abbrev entries : tie.Start → List Entry
-entries s = entriesIn (take (s .args .words) (s .args .plan .now))
+entries s = entriesIn (take (s .args .planned) (s .args .plan .now))
 
 abbrev blocked : tie.Start → List ℕ
-blocked s = take (s .args .count) (s .args .list .now)
+blocked s = take (s .args .listed) (s .args .list .now)
 
 -- what is left to write where n texts were put
 abbrev Left : ℕ → tie.Start → List ℕ → ℕ → Type 0
 Left n s page next =
-    Going 0 (keyPage (s .args .points) (s .args .zones) (s .args .out) (s .args .verdict) (entries s) (blocked s)) (s .args .page .now)
-    (drop n (keyPieces (s .args .points) (s .args .zones) (s .args .out) (s .args .verdict) (entries s) (blocked s))) page next
+    Putting 0 (keyPage (s .args .summary) (s .args .verdict) (entries s) (blocked s)) (s .args .page .now)
+    (drop n (keyPieces (s .args .summary) (s .args .verdict) (entries s) (blocked s))) page next
 
 none-put : (s : tie.Start) → Left 0 s (s .args .page .now) 0
-none-put s = key-starts (s .args .points) (s .args .zones) (s .args .out) (s .args .verdict) (entries s) (blocked s) (s .pre .room)
+none-put s = key-starts (s .args .summary) (s .args .verdict) (entries s) (blocked s) (s .pre .room)
 
-head-put : (c : tie.After-put-head) → Left 1 (c .before .before .before .before .before) (c .put-head .last .0) (c .put-head .result)
-head-put c = goes-on (none-put (c .before .before .before .before .before)) (c .put-head .ensures)
+first-put : (c : tie.After-put-first-lines) → Left 1 (c .before .before .before .before .before) (c .put-first-lines .last .0) (c .put-first-lines .result)
+first-put c = goes-on (none-put (c .before .before .before .before .before)) (c .put-first-lines .ensures)
 
 plan-put : (c : tie.After-put-plan) → Left 2 (c .before .before .before .before .before .before .before .before .before .before) (c .put-plan .last .0) (c .put-plan .result)
-plan-put c = goes-on (head-put (c .before .before .before .before .before)) (c .put-plan .ensures)
+plan-put c = goes-on (first-put (c .before .before .before .before .before)) (c .put-plan .ensures)
 
 blocked-put : (c : tie.After-put-text) → Left 3 (c .before .before .before .before .before .before .before .before .before .before .before .before .before .before .before) (c .put-text .last .0) (c .put-text .result)
 blocked-put c = goes-on (plan-put (c .before .before .before .before .before)) (c .put-text .ensures)
@@ -44,16 +44,16 @@ list-put c = goes-on (blocked-put (c .before .before .before .before .before)) (
 line-put : (c : tie.After-put-text2) → Left 5 (c .before .before .before .before .before .before .before .before .before .before .before .before .before .before .before .before .before .before .before .before .before .before .before .before .before) (c .put-text2 .last .0) (c .put-text2 .result)
 line-put c = goes-on (list-put (c .before .before .before .before .before)) (c .put-text2 .ensures)
 
-put-head-requires : tie.Need-put-head-requires
-put-head-requires c κs = room-left (none-put (c .before .before .before .before))
+put-first-lines-requires : tie.Need-put-first-lines-requires
+put-first-lines-requires c κs = room-left (none-put (c .before .before .before .before))
 
 slice-aggregate-put-plan : tie.Need-slice-aggregate-put-plan
 slice-aggregate-put-plan c =
     let start = c .before .before .before .before .before .before .before .before .before in
-    sym (length-take-le (start .args .words) (start .args .plan .now) (start .pre .words-in))
+    sym (length-take-le (start .args .planned) (start .args .plan .now) (start .pre .plan-in))
 
 put-plan-requires : tie.Need-put-plan-requires
-put-plan-requires c κs = (c .before .before .before .before .before .before .before .before .before .pre .planned, room-left (head-put (c .before .before .before .before)))
+put-plan-requires c κs = (c .before .before .before .before .before .before .before .before .before .pre .is-plan, room-left (first-put (c .before .before .before .before)))
 
 slice-aggregate-put-text : tie.Need-slice-aggregate-put-text
 slice-aggregate-put-text c = refl
@@ -64,7 +64,7 @@ put-text-requires c κs = room-left (plan-put (c .before .before .before .before
 slice-aggregate-put-list : tie.Need-slice-aggregate-put-list
 slice-aggregate-put-list c =
     let start = c .before .before .before .before .before .before .before .before .before .before .before .before .before .before .before .before .before .before .before in
-    sym (length-take-le (start .args .count) (start .args .list .now) (start .pre .count-in))
+    sym (length-take-le (start .args .listed) (start .args .list .now) (start .pre .list-in))
 
 put-list-requires : tie.Need-put-list-requires
 put-list-requires c κs = room-left (blocked-put (c .before .before .before .before))
@@ -85,7 +85,7 @@ pub write-key-spec : {M : Type 1} → statement M
 write-key-spec =
     tie.close
     (tie.spec
-    put-head-requires
+    put-first-lines-requires
     slice-aggregate-put-plan
     put-plan-requires
     slice-aggregate-put-text

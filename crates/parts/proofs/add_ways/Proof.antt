@@ -7,13 +7,13 @@ use native.Mathlib.Omega.{arith}
 use borrow.Author.Needs.{needs}
 use denote.Ref.{now}
 use lib.ListN.{length}
-use Rattle.parts.specs.Ways.{goesOn, Over}
+use Rattle.parts.specs.Ways.{goesOn, WaysOn}
 use Rattle.parts.proofs.WordWays.{over-none, over-added, over-skip, end-inside}
 use Rattle.parts.proofs.add_ways.Statement.{statement}
 use Rattle.parts.proofs.add_ways.Tie as tie
 
 abbrev Inv-loop : tie.InvT-loop
-Inv-loop ends position merging looped ways₀ w₀ ways w = (w ≤ length ends) × Over ends (goesOn ends position merging looped) w ways
+Inv-loop ends position merging looped ways₀ w₀ ways w = (w ≤ length ends) × WaysOn ends (goesOn ends position merging looped) w ways
 
 abbrev μ-loop : tie.MeasureT-loop
 μ-loop ends position merging looped ways₀ w₀ ways w = length ends - w

@@ -3,7 +3,7 @@
 use mathlib.Core.Path.{ap, _∙_}
 use borrow.Author.Needs.{needs}
 use Rattle.model.specs.Position.{outs}
-use Rattle.parts.proofs.WordWays.{sized-whole, parsed-sized}
+use Rattle.parts.proofs.WordWays.{among-most, bounded-among}
 use Rattle.parts.proofs.LeftCarriers.{outs-left}
 use Rattle.parts.proofs.collapse_position.Statement.{statement}
 use Rattle.parts.proofs.collapse_position.Tie as tie
@@ -12,7 +12,7 @@ home-set-requires : tie.Need-home-set-requires
 home-set-requires c κs = search needs
 
 take-off-requires : tie.Need-take-off-requires
-take-off-requires c κs = sized-whole (parsed-sized (c .before .before .before .before .before .pre))
+take-off-requires c κs = among-most (bounded-among (c .before .before .before .before .before .pre))
 
 same-length : tie.Need-same-length
 same-length c = search needs

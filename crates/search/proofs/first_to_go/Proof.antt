@@ -3,26 +3,26 @@
 use Prim.Native.Nat.{_*_, _-_, _/_}
 use mathlib.Core.Path.{sym, _∙_}
 use native.Mathlib.Omega.{arith}
-use lib.ListN.{length}
 use denote.Ref.{now}
+use Rattle.model.specs.Track.{trackOf}
 use borrow.Author.Needs.{needs}
 use Rattle.search.proofs.Looks.{Looking, looking-few, looking-more}
-use Rattle.search.proofs.Trying.{Tried, tried-none, nobody-goes, Next, next-few, next-in-order, next-inside, next-free, Turn, turn-standing, turn-in-words, turn-in-froms, turn-blocks, turn-looks, turn-words, turn-froms, turn-past, turn-inside, turn-goes, turn-offers, turn-leaves}
+use Rattle.search.proofs.Trying.{Tried, tried-none, nobody-goes, Next, next-few, next-in-order, next-inside, next-free, HeldNext, turn-standing, turn-in-words, turn-in-froms, turn-blocks, turn-looks, turn-words, turn-froms, turn-past, turn-inside, turn-goes, turn-offers, turn-leaves}
 use Rattle.search.proofs.first_to_go.Statement.{statement}
 use Rattle.search.proofs.first_to_go.Tie as tie
 
 abbrev Inv-loop : tie.InvT-loop
-Inv-loop home ends position follows free order count words₀ froms₀ k zone held standing enterable₀ found₀ i₀ words froms enterable found i =
-    Looking home (length position) ends position (held / 2) standing words₀ froms₀ words froms enterable found i
+Inv-loop head ends position follows free order count words₀ froms₀ k zone held standing enterable₀ found₀ i₀ words froms enterable found i =
+    Looking (trackOf head ends) position (held / 2) standing words₀ froms₀ words froms enterable found i
 
 abbrev μ-loop : tie.MeasureT-loop
-μ-loop home ends position follows free order count words₀ froms₀ k zone held standing enterable₀ found₀ i₀ words froms enterable found i = 2 * length position - i
+μ-loop head ends position follows free order count words₀ froms₀ k zone held standing enterable₀ found₀ i₀ words froms enterable found i = 2 * head .zones - i
 
 abbrev Inv-carriers : tie.InvT-carriers
-Inv-carriers home ends position follows free order count words₀ froms₀ k₀ words froms k = Tried home (length position) ends position order count words₀ froms₀ words froms k
+Inv-carriers head ends position follows free order count words₀ froms₀ k₀ words froms k = Tried (trackOf head ends) position order count words₀ froms₀ words froms k
 
 abbrev μ-carriers : tie.MeasureT-carriers
-μ-carriers home ends position follows free order count words₀ froms₀ k₀ words froms k = count - k
+μ-carriers head ends position follows free order count words₀ froms₀ k₀ words froms k = count - k
 
 -- the function's entry, from the head of the outer loop
 abbrev start : tie.At-carriers Inv-loop μ-loop Inv-carriers μ-carriers → tie.Start Inv-loop μ-loop Inv-carriers μ-carriers
@@ -33,7 +33,7 @@ module _ (e : tie.Else1 Inv-loop μ-loop Inv-carriers μ-carriers) where
   a = start (e .before)
 
   next :
-      Next (a .args .home) (length (now (a .args .position))) (now (a .args .ends)) (now (a .args .position)) (now (a .args .follows)) (now (a .args .free)) (now (a .args .order)) (a .args .count)
+      Next (trackOf (a .args .head) (now (a .args .ends))) (now (a .args .position)) (now (a .args .follows)) (now (a .args .free)) (now (a .args .order)) (a .args .count)
       (now (a .args .words)) (now (a .args .froms)) (e .before .carriers .words) (e .before .carriers .froms) (e .before .carriers .k)
   next = record { seeking = a .pre; tried = e .before .carriers .inv; another = e .if1 .left }
 
@@ -45,7 +45,7 @@ module _ (e : tie.Else2 Inv-loop μ-loop Inv-carriers μ-carriers) where
   first = start h
 
   turn :
-      Turn (first .args .home) (length (now (first .args .position))) (now (first .args .ends)) (now (first .args .position)) (now (first .args .follows)) (now (first .args .free)) (now (first .args .order)) (first .args .count)
+      HeldNext (trackOf (first .args .head) (now (first .args .ends))) (now (first .args .position)) (now (first .args .follows)) (now (first .args .free)) (now (first .args .order)) (first .args .count)
       (now (first .args .words)) (now (first .args .froms)) (h .carriers .words) (h .carriers .froms) (h .carriers .k)
   turn = record { next = next (e .before .before .before); held = e .if2 .left }
 
@@ -54,7 +54,7 @@ abbrev held : tie.At-loop Inv-loop μ-loop Inv-carriers μ-carriers → tie.Else
 held a = a .before .before .before .before .before .before .before .before
 
 carriers-holds : tie.Need-carriers-holds Inv-loop μ-loop Inv-carriers μ-carriers
-carriers-holds c = tried-none (c .before .before .before .before .before .before .before .pre) (c .before .before .before .before .before .before .before .args .home)
+carriers-holds c = tried-none (c .before .before .before .before .before .before .before .pre)
 
 mul-zone : tie.Need-mul-zone Inv-loop μ-loop Inv-carriers μ-carriers
 mul-zone c = omega (arith, next-in-order (next c), start (c .before) .good)
@@ -131,15 +131,15 @@ leaving-requires c κs = turn-leaves (turn (held (c .before .before))) (c .befor
 
 slice-aggregate-offer-next :
     tie.Need-slice-aggregate-offer-next Inv-loop μ-loop Inv-carriers μ-carriers
-slice-aggregate-offer-next c = sym (c .before .before .before .before .before .before .before .loop .inv .queued .blocks)
+slice-aggregate-offer-next c = sym (c .before .before .before .before .before .before .before .before .loop .inv .queued .blocks)
 
 offer-next-requires : tie.Need-offer-next-requires Inv-loop μ-loop Inv-carriers μ-carriers
-offer-next-requires c κs = turn-offers (turn (held (c .before .before .before .before .before .before .before))) (c .before .before .before .before .before .before .before .loop .inv) (c .before .before .before .before .before .before .loop-test .taken)
+offer-next-requires c κs = turn-offers (turn (held (c .before .before .before .before .before .before .before .before))) (c .before .before .before .before .before .before .before .before .loop .inv) (c .before .before .before .before .before .before .before .loop-test .taken)
 
 -- after an offering: the head of the inner loop, and that a word was left there
 module _ (c : tie.After-enterable4 Inv-loop μ-loop Inv-carriers μ-carriers) where
   abbrev inside : tie.In-loop Inv-loop μ-loop Inv-carriers μ-carriers
-  inside = c .before .before .before .before .before .before .before .before .before .before .before .before
+  inside = c .before .before .before .before .before .before .before .before .before .before .before .before .before
 
   abbrev head : tie.At-loop Inv-loop μ-loop Inv-carriers μ-carriers
   head = inside .before
@@ -156,7 +156,7 @@ loop-less c = omega (arith, looking-few (head c .loop .inv) (inside c .loop-test
 loop-again : tie.Need-loop-again Inv-loop μ-loop Inv-carriers μ-carriers
 loop-again c =
     looking-more (head c .loop .inv) (inside c .loop-test .taken)
-    (λ e. offered c .before .before .before .before .if3 .left (offered c .before .before .before .before .before .leaving .ensures ∙ e))
+    (λ e. offered c .before .before .before .before .if3 .left (offered c .before .before .before .before .before .before .leaving .ensures ∙ e))
     (first (held (head c)) .pre .tables) (offered c .offer-next .ensures)
     (offered c .offer-next .kept .1 .1 .1 .1 .0) (offered c .offer-next .kept .1 .1 .1 .1 .1 .0) (offered c .offer-next .kept .1 .1 .1 .1 .1 .1 .0)
 
@@ -167,16 +167,16 @@ same-length-2 : tie.Need-same-length-2 Inv-loop μ-loop Inv-carriers μ-carriers
 same-length-2 c = c .before .carriers .inv .same-froms
 
 returns : tie.Need-returns Inv-loop μ-loop Inv-carriers μ-carriers
-returns c = nobody-goes (start (c .before) .pre) (start (c .before) .args .home) (c .before .carriers .inv) (c .if1 .taken)
+returns c = nobody-goes (start (c .before) .pre) (c .before .carriers .inv) (c .if1 .taken)
 
 same-length-3 : tie.Need-same-length-3 Inv-loop μ-loop Inv-carriers μ-carriers
-same-length-3 c = turn-words (turn (held (c .before .before .before .before))) (c .before .before .before .before .loop .inv)
+same-length-3 c = turn-words (turn (held (c .before .before .before .before .before))) (c .before .before .before .before .before .loop .inv)
 
 same-length-4 : tie.Need-same-length-4 Inv-loop μ-loop Inv-carriers μ-carriers
-same-length-4 c = turn-froms (turn (held (c .before .before .before .before))) (c .before .before .before .before .loop .inv)
+same-length-4 c = turn-froms (turn (held (c .before .before .before .before .before))) (c .before .before .before .before .before .loop .inv)
 
 returns-2 : tie.Need-returns-2 Inv-loop μ-loop Inv-carriers μ-carriers
-returns-2 c = turn-goes (turn (held (c .before .before .before .before))) (c .before .before .before .before .loop .inv) (c .before .before .before .loop-test .taken) (sym (c .before .leaving .ensures) ∙ c .if3 .taken)
+returns-2 c = turn-goes (turn (held (c .before .before .before .before .before))) (c .before .before .before .before .before .loop .inv) (c .before .before .before .before .loop-test .taken) (sym (c .before .before .leaving .ensures) ∙ c .if3 .taken)
 
 pub first-to-go-spec : {M : Type 1} → statement M
 first-to-go-spec =

@@ -2,20 +2,20 @@
 -- The invariant: what is stored and the run from here make the whole run (laws of Sends). The measure is how many carriers are out.
 use mathlib.Core.Path.{_∙_}
 use native.Mathlib.Omega.{arith}
-use lib.ListN.{length}
 use denote.Ref.{now}
+use Rattle.model.specs.Track.{trackOf}
 use borrow.Author.Needs.{needs}
 use Rattle.search.specs.declared.Goes.the-variants.{Nobody}
-use Rattle.search.proofs.Sends.{Underway, underway-starts, underway-seeks, underway-done, underway-nobody, sought-at, OneGoes, goes-inside, goes-few, goes-blocks, goes-entry, goes-more}
+use Rattle.search.proofs.Sends.{Underway, underway-starts, underway-done, underway-nobody, sought-at, OneGoes, goes-inside, goes-few, goes-blocks, goes-number, goes-entry, goes-more}
 use Rattle.search.proofs.send_all.Statement.{statement}
 use Rattle.search.proofs.send_all.Tie as tie
 
 abbrev Inv-loop : tie.InvT-loop
-Inv-loop home ends follows order count words₀ froms₀ free₀ position₀ plan₀ out₀ at₀ words froms free position plan out at =
-    Underway home (length position₀) ends follows order count words₀ froms₀ free₀ position₀ plan₀ words froms free position plan out at
+Inv-loop head ends follows order count words₀ froms₀ free₀ position₀ plan₀ out₀ at₀ words froms free position plan out at =
+    Underway (trackOf head ends) follows order count words₀ froms₀ free₀ position₀ plan₀ words froms free position plan out at
 
 abbrev μ-loop : tie.MeasureT-loop
-μ-loop home ends follows order count words₀ froms₀ free₀ position₀ plan₀ out₀ at₀ words froms free position plan out at = out
+μ-loop head ends follows order count words₀ froms₀ free₀ position₀ plan₀ out₀ at₀ words froms free position plan out at = out
 
 -- the function's entry, from the head of the loop
 abbrev start : tie.At-loop Inv-loop μ-loop → tie.Start Inv-loop μ-loop
@@ -37,7 +37,7 @@ module _ (g : tie.After-goes Inv-loop μ-loop) where
   a = start h
 
   goes :
-      OneGoes (a .args .home) (length (now (a .args .position))) (now (a .args .ends)) (now (a .args .follows)) (now (a .args .order)) (a .args .count)
+      OneGoes (trackOf (a .args .head) (now (a .args .ends))) (now (a .args .follows)) (now (a .args .order)) (a .args .count)
       (now (a .args .words)) (now (a .args .froms)) (now (a .args .free)) (now (a .args .position)) (now (a .args .plan))
       (h .loop .words) (h .loop .froms) (h .loop .free) (h .loop .position) (h .loop .plan) (h .loop .out) (h .loop .at)
       (call .first-to-go .last .1 .1 .1 .1 .1 .1 .1 .0) (call .first-to-go .last .1 .1 .1 .1 .1 .1 .1 .1 .0) (g .goes .given .0 .0) (g .goes .given .0 .1 .0)
@@ -46,14 +46,14 @@ module _ (g : tie.After-goes Inv-loop μ-loop) where
     some-left = call .before .before .before .before .before .loop-test .taken;
     same-words = call .first-to-go .kept .1 .1 .1 .1 .1 .1 .1 .0;
     same-froms = call .first-to-go .kept .1 .1 .1 .1 .1 .1 .1 .1 .0;
-    sought = sought-at _ (g .goes .given .1) (h .loop .inv .seeking .tables .each) (call .first-to-go .ensures);
+    sought = sought-at _ (g .goes .given .1) (call .first-to-go .ensures);
   }
 
 loop-holds : tie.Need-loop-holds Inv-loop μ-loop
-loop-holds c = underway-starts (c .before .before .before .before .before .before .before .before .args .home) (c .before .before .before .before .before .before .before .before .pre)
+loop-holds c = underway-starts (c .before .before .before .before .before .before .before .before .pre)
 
 first-to-go-requires : tie.Need-first-to-go-requires Inv-loop μ-loop
-first-to-go-requires c κs = underway-seeks (c .before .before .before .before .before .loop .inv)
+first-to-go-requires c κs = c .before .before .before .before .before .loop .inv .seeking
 
 enum-known-goes : tie.Need-enum-known-goes Inv-loop μ-loop
 enum-known-goes c = search needs
@@ -79,7 +79,7 @@ same-length-5 c = head (c .before .before .before .before .before .before) .loop
 returns : tie.Need-returns Inv-loop μ-loop
 returns c =
     underway-nobody (head (c .before .before .before .before .before .before) .loop .inv)
-    (sought-at Nobody (c .enum-told .given .1) (head (c .before .before .before .before .before .before) .loop .inv .seeking .tables .each) (c .before .before .before .before .before .before .first-to-go .ensures))
+    (sought-at Nobody (c .enum-told .given .1) (c .before .before .before .before .before .before .first-to-go .ensures))
 
 mul-write-entry : tie.Need-mul-write-entry Inv-loop μ-loop
 mul-write-entry c = omega (arith, goes-few (goes (c .before)))
@@ -88,7 +88,9 @@ slice-read-write-entry : tie.Need-slice-read-write-entry Inv-loop μ-loop
 slice-read-write-entry c = goes-inside (goes (c .before .before))
 
 write-entry-requires : tie.Need-write-entry-requires Inv-loop μ-loop
-write-entry-requires c κs = goes-entry (goes (c .before .before .before .before .before))
+write-entry-requires c κs =
+    let one = goes (c .before .before .before .before .before) in
+    goes-entry one _ _ (omega (arith, goes-number one)) (omega arith)
 
 mul-position : tie.Need-mul-position Inv-loop μ-loop
 mul-position c = omega (arith, goes-few (goes (c .before .before .before .before .before .before .before .before)))

@@ -2,7 +2,7 @@
 -- From the contracts of what it calls, with what they ask and give from Prepares.
 use mathlib.Core.Path.{refl}
 use borrow.Author.Needs.{needs}
-use Rattle.search.proofs.Prepares.{sendable-sized, sendable-prepared, sendable-sent}
+use Rattle.search.proofs.Prepares.{sendable-sized, sendable-prepared}
 use Rattle.search.proofs.send_home.Statement.{statement}
 use Rattle.search.proofs.send_home.Tie as tie
 
@@ -51,7 +51,7 @@ same-length-2 : tie.Need-same-length-2
 same-length-2 c = search needs
 
 returns : tie.Need-returns
-returns c = sendable-sent (c .before .before .before .before .before .before .before .before .before .before .before .before .before .before .before .before .before .before .before .before .before .before .before .before .before .before .before .before .before .pre) (c .before .before .before .before .before .before .before .send-all .ensures)
+returns c = c .before .before .before .before .before .before .before .send-all .ensures
 
 pub send-home-spec : {M : Type 1} → statement M
 send-home-spec =

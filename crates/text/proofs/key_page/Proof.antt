@@ -1,25 +1,25 @@
--- `key_page` meets its contract: the key is drawn into room for every plan and list, and its page is written.
--- From the contracts of `count_out`, `parsed::key` and `write_key`, by the two laws of KeyPages: what was drawn can be written, and is the page.
+-- `key_page` meets its contract: the key is drawn into room for every plan and list, and the page of a refusal or of the key is written.
+-- From the contracts of `exam::key`, `write_refused` and `write_key`, by the laws of KeyPages: what was drawn can be written, and is the page.
 use Prim.Native.Nat.{ℕ}
+use mathlib.Core.Path.{sym, _∙_}
 use borrow.Author.Needs.{needs}
+use denote.Ref.{now}
 use lib.ListN.{length-replicate}
-use Rattle.text.proofs.KeyPages.{can-write, page-begun}
+use Rattle.board.proofs.ReadBoard.{Bytes}
+use Rattle.text.proofs.KeyPages.{refused-fits, refused-begun, can-write, page-begun}
 use Rattle.text.proofs.key_page.Statement.{statement}
 use Rattle.text.proofs.key_page.Tie as tie
 
--- what was counted before the key was drawn, and the entry
-abbrev counting : tie.After-key → tie.After-count-out
-counting c = c .before .before .before .before
+-- the key, before its verdict was looked at
+abbrev drawing : tie.After-turns-back → tie.After-key
+drawing c = c .before .before .before
 
 abbrev entry : tie.After-key → tie.Start
-entry c = counting c .before .before .before .before .before
+entry c = c .before .before .before .before .before
 
--- the key before its page was written
-abbrev drawing : tie.After-write-key-arg → tie.After-key
-drawing c = c .before .before .before .before .before .before .before
-
-count-out-requires : tie.Need-count-out-requires
-count-out-requires c κs = search needs
+-- the bytes that were lent
+bytes : (c : tie.After-key) → Bytes (now (entry c .args .bytes))
+bytes c i = c .before .before .before .before .shared-slice-known .given i .fits
 
 slice-aggregate-key : tie.Need-slice-aggregate-key
 slice-aggregate-key c = search needs
@@ -30,6 +30,27 @@ slice-aggregate-key-2 c = search needs
 key-requires : tie.Need-key-requires
 key-requires c κs = search needs
 
+turns-back-requires : tie.Need-turns-back-requires
+turns-back-requires c κs = search needs
+
+write-refused-requires : tie.Need-write-refused-requires
+write-refused-requires c κs =
+    let turned = c .before in
+    let key = drawing (turned .before) in
+    refused-fits (now (entry key .args .bytes)) (bytes key) (length-replicate {A = ℕ} 18624 0) (length-replicate {A = ℕ} 96 0) (key .key .ensures .0 .given)
+    (now (entry key .args .page)) (sym (turned .before .turns-back .ensures) ∙ turned .if1 .taken) (entry key .pre .1)
+
+same-length : tie.Need-same-length
+same-length c = search needs
+
+returns : tie.Need-returns
+returns c =
+    let written = c .before .before in
+    let turned = written .before .before in
+    let key = drawing (turned .before) in
+    refused-begun (now (entry key .args .bytes)) (bytes key) (length-replicate {A = ℕ} 18624 0) (length-replicate {A = ℕ} 96 0) (key .key .ensures .0 .given)
+    (entry key .pre .0) (sym (turned .before .turns-back .ensures) ∙ turned .if1 .taken) (written .write-refused .ensures)
+
 slice-aggregate-write-key : tie.Need-slice-aggregate-write-key
 slice-aggregate-write-key c = search needs
 
@@ -38,34 +59,35 @@ slice-aggregate-write-key-2 c = search needs
 
 write-key-requires : tie.Need-write-key-requires
 write-key-requires c κs =
-    let key = drawing c in
-    can-write (entry key .pre .ready) (counting key .count-out .ensures) (length-replicate {A = ℕ} 18624 0) (length-replicate {A = ℕ} 96 0) (key .key .ensures)
-    (key .key .kept .1 .1 .1 .1 .1 .0) (key .key .kept .1 .1 .1 .1 .1 .1 .0) (entry key .pre .room)
-
-same-length : tie.Need-same-length
-same-length c = search needs
+    let on = c .before .before .before .before in
+    let key = drawing (on .before) in
+    can-write (now (entry key .args .bytes)) (bytes key) (length-replicate {A = ℕ} 18624 0) (length-replicate {A = ℕ} 96 0) (key .key .ensures .0 .given)
+    (key .key .ensures .1) (sym (on .before .turns-back .ensures) ∙ on .if1 .left) (key .key .kept .1 .0) (key .key .kept .1 .1 .0) (entry key .pre .1)
 
 same-length-2 : tie.Need-same-length-2
 same-length-2 c = search needs
 
-returns : tie.Need-returns
-returns c =
+returns-2 : tie.Need-returns-2
+returns-2 c =
     let written = c .before .before in
-    let key = drawing (written .before) in
-    page-begun (entry key .pre .ready) (counting key .count-out .ensures) (length-replicate {A = ℕ} 18624 0) (length-replicate {A = ℕ} 96 0) (key .key .ensures)
-    (written .write-key .ensures)
+    let on = written .before .before .before .before .before in
+    let key = drawing (on .before) in
+    page-begun (now (entry key .args .bytes)) (bytes key) (length-replicate {A = ℕ} 18624 0) (length-replicate {A = ℕ} 96 0) (key .key .ensures .0 .given)
+    (key .key .ensures .1) (sym (on .before .turns-back .ensures) ∙ on .if1 .left) (entry key .pre .0) (written .write-key .ensures)
 
 pub key-page-spec : {M : Type 1} → statement M
 key-page-spec =
     tie.close
     (tie.spec
-    count-out-requires
     slice-aggregate-key
     slice-aggregate-key-2
     key-requires
+    turns-back-requires
+    write-refused-requires
+    same-length
+    returns
     slice-aggregate-write-key
     slice-aggregate-write-key-2
     write-key-requires
-    same-length
     same-length-2
-    returns)
+    returns-2)

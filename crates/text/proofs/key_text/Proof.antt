@@ -1,52 +1,52 @@
--- `key_text` keeps its promise: the page of the bytes is written into room for any page, and copied out where it fits.
--- From the contracts of `read_page` and `copy_page`, by two laws of Pages: the page is inside its room, and its copy keeps the promise.
-use Prim.Native.Nat.{ℕ}
+-- `key_text` keeps its promise: nothing where fewer than PAGE bytes are lent, else the page of the bytes.
+-- Each return is a law of Pages, by the test that led to it and the contracts of `write_too_long` and `key_page`.
 use borrow.Author.Needs.{needs}
-use native.Mathlib.Omega.{arith}
 use denote.Ref.{now}
-use lib.ListN.{length-replicate}
-use Rattle.exam.proofs.ReadBoard.{Bytes}
-use Rattle.text.proofs.Pages.{fits-page, text-copied}
+use Rattle.board.proofs.ReadBoard.{Bytes}
+use Rattle.text.proofs.Pages.{too-few-lent, too-long-begun, text-written}
 use Rattle.text.proofs.key_text.Statement.{statement}
 use Rattle.text.proofs.key_text.Tie as tie
 
-abbrev entry : tie.After-read-page → tie.Start
-entry c = c .before .before .before .before
-
 -- the bytes that were lent
-bytes : (c : tie.After-read-page) → Bytes (now (entry c .args .bytes))
-bytes c i = c .before .before .before .shared-slice-known .given i .fits
+bytes : (c : tie.After-slice-known) → Bytes (now (c .before .before .args .bytes))
+bytes c i = c .before .shared-slice-known .given i .fits
 
-slice-aggregate-read-page : tie.Need-slice-aggregate-read-page
-slice-aggregate-read-page c = search needs
+returns : tie.Need-returns
+returns c = too-few-lent _ (bytes (c .before)) _ (c .if1 .taken)
 
-read-page-requires : tie.Need-read-page-requires
-read-page-requires c κs = search needs
-
-slice-aggregate-copy-page : tie.Need-slice-aggregate-copy-page
-slice-aggregate-copy-page c = search needs
-
-copy-page-requires : tie.Need-copy-page-requires
-copy-page-requires c κs =
-    let read = c .before .before .before in
-    fits-page (now (entry read .args .bytes)) (read .read-page .ensures) (bytes read) (omega (arith, length-replicate {A = ℕ} 75127 0, read .read-page .kept .1 .0))
+write-too-long-requires : tie.Need-write-too-long-requires
+write-too-long-requires c κs = search needs
 
 same-length : tie.Need-same-length
 same-length c = search needs
 
-returns : tie.Need-returns
-returns c =
-    let copied = c .before .before in
-    let read = copied .before .before .before .before in
-    text-copied (now (entry read .args .bytes)) (read .read-page .ensures) (bytes read) (copied .copy-page .ensures)
+returns-2 : tie.Need-returns-2
+returns-2 c =
+    let written = c .before .before in
+    let long = written .before .before in
+    let room = long .before in
+    text-written _ (bytes (room .before)) (room .if1 .left) (too-long-begun _ (long .if2 .taken) (written .write-too-long .ensures))
+
+key-page-requires : tie.Need-key-page-requires
+key-page-requires c κs = search needs
+
+same-length-2 : tie.Need-same-length-2
+same-length-2 c = search needs
+
+returns-3 : tie.Need-returns-3
+returns-3 c =
+    let written = c .before .before in
+    let room = written .before .before .before in
+    text-written _ (bytes (room .before)) (room .if1 .left) (written .key-page .ensures)
 
 pub key-text-spec : {M : Type 1} → statement M
 key-text-spec =
     tie.close
     (tie.spec
-    slice-aggregate-read-page
-    read-page-requires
-    slice-aggregate-copy-page
-    copy-page-requires
+    returns
+    write-too-long-requires
     same-length
-    returns)
+    returns-2
+    key-page-requires
+    same-length-2
+    returns-3)

@@ -5,13 +5,13 @@ use mathlib.Core.Path.{sym, _∙_, ap}
 use native.Mathlib.Omega.{arith}
 use lib.ListN.{length}
 use Rattle.board.specs.Inner.{WaysOf}
-use Rattle.board.proofs.Doubling.{Starts, starts-first, starts-zone, starts-last}
+use Rattle.board.proofs.Doubling.{StartsTwice, starts-first, starts-zone, starts-last}
 use Rattle.board.proofs.Together.{ways-first, ways-zone, ways-last, added-size, first-in, second-in}
 use Rattle.board.proofs.links.add_ways.Statement.{statement}
 use Rattle.board.proofs.links.add_ways.Tie as tie
 
 abbrev Inv-loop : tie.InvT-loop
-Inv-loop bytes ways₀ zones once₀ twice₀ z₀ ways once twice z = (z ≤ zones) × WaysOf bytes ways (2 * z) × Starts bytes once twice (2 * z)
+Inv-loop bytes ways₀ zones once₀ twice₀ z₀ ways once twice z = (z ≤ zones) × WaysOf bytes ways (2 * z) × StartsTwice bytes once twice (2 * z)
 
 abbrev μ-loop : tie.MeasureT-loop
 μ-loop bytes ways₀ zones once₀ twice₀ z₀ ways once twice z = zones - z

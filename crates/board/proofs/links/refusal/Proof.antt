@@ -7,7 +7,7 @@ use lib.Dec.{eqb}
 use native.Mathlib.Omega.{arith}
 use borrow.Author.Needs.{needs}
 use borrow.Author.Tests.{eq-eqb, ne-eqb}
-use Rattle.model.specs.Lists.{any, below}
+use Rattle.model.specs.Lists.{anyOf, numbersBelow}
 use Rattle.model.specs.Reading.{pointsSaid, underTwo, apart}
 use Rattle.board.proofs.Doubling.{some-points, home-small, under-two-none, under-two-some}
 use Rattle.board.proofs.Together.{home-in-ways, ways-inside, apart-row}
@@ -16,11 +16,11 @@ use Rattle.board.proofs.links.refusal.Statement.{statement}
 use Rattle.board.proofs.links.refusal.Tie as tie
 
 -- no point of row 8
-each-two : (c : tie.Else1) → any (underTwo (now (c .before .before .before .before .before .before .before .before .before .before .args .bytes))) (below (pointsSaid (now (c .before .before .before .before .before .before .before .before .before .before .args .bytes)))) ≡ false
+each-two : (c : tie.Else1) → anyOf (underTwo (now (c .before .before .before .before .before .before .before .before .before .before .args .bytes))) (numbersBelow (pointsSaid (now (c .before .before .before .before .before .before .before .before .before .before .args .bytes)))) ≡ false
 each-two c =
     let made = c .before in
     let laid = made .before .before .before .before in
-    under-two-none (laid .before .before .before .before .before .pre .1) (laid .add-ways .ensures .1) (laid .add-ways .ok) (laid .before .before .before .byte .ensures) (laid .before .before .byte2 .ensures) (made .before .before .all .ensures) (made .before .with .ensures) (made .without .ensures) (c .if1 .left)
+    under-two-none (laid .before .before .before .before .before .pre .1) (laid .add-ways .ensures .1) (laid .add-ways .ok) (laid .before .before .before .byte .ensures) (laid .before .before .byte2 .ensures) (made .before .before .all .ensures) (made .before .with .ensures) (made .minus .ensures) (c .if1 .left)
 
 -- row 9 by the points that home reaches
 apart-is : (c : tie.After-size) → not (eqb (c .size .result) (c .before .before .before .before .before .before .before .before .before .before .before .byte .result)) ≡ apart (now (c .before .before .before .before .before .before .before .before .before .before .before .before .before .args .bytes))
@@ -46,14 +46,14 @@ all-requires c κs = some-points (c .before .before .before .before .before .bef
 with-requires : tie.Need-with-requires
 with-requires c κs = home-small (c .before .before .before .before .before .before .before .pre .1) (c .before .before .before .before .byte2 .ensures)
 
-without-requires : tie.Need-without-requires
-without-requires c κs = search needs
+minus-requires : tie.Need-minus-requires
+minus-requires c κs = search needs
 
 returns : tie.Need-returns
 returns c =
     let made = c .before in
     let laid = made .before .before .before .before in
-    row-8 _ (under-two-some (laid .before .before .before .before .before .pre .1) (laid .add-ways .ensures .1) (laid .add-ways .ok) (laid .before .before .before .byte .ensures) (laid .before .before .byte2 .ensures) (made .before .before .all .ensures) (made .before .with .ensures) (made .without .ensures) (c .if1 .taken))
+    row-8 _ (under-two-some (laid .before .before .before .before .before .pre .1) (laid .add-ways .ensures .1) (laid .add-ways .ok) (laid .before .before .before .byte .ensures) (laid .before .before .byte2 .ensures) (made .before .before .all .ensures) (made .before .with .ensures) (made .minus .ensures) (c .if1 .taken))
 
 slice-aggregate-grow : tie.Need-slice-aggregate-grow
 slice-aggregate-grow c = search needs
@@ -80,7 +80,7 @@ refusal-spec =
     add-ways-requires
     all-requires
     with-requires
-    without-requires
+    minus-requires
     returns
     slice-aggregate-grow
     grow-requires

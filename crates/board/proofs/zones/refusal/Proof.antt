@@ -4,7 +4,7 @@ use Prim.Native.Nat.{_-_}
 use mathlib.Core.Logic.{⊎-elim}
 use mathlib.Core.Path.{_≡_, refl, sym, _∙_}
 use native.Mathlib.Omega.{arith}
-use Rattle.model.specs.Lists.{any, below}
+use Rattle.model.specs.Lists.{anyOf, numbersBelow}
 use Rattle.model.specs.Reading.{badZone, repeated as Reading·repeated}
 use Rattle.board.proofs.Turns.{NoneYet, none-first, none-next, met, none-met, all-met}
 use Rattle.board.proofs.Repeats.{Seen, seen-first, seen-free, seen-held, again-free, again-new, again-met}
@@ -13,7 +13,7 @@ use Rattle.board.proofs.zones.refusal.Statement.{statement}
 use Rattle.board.proofs.zones.refusal.Tie as tie
 
 abbrev Inv-loop : tie.InvT-loop
-Inv-loop bytes zones seen₀ repeated₀ z₀ seen repeated z = NoneYet (badZone bytes) zones z × Seen bytes seen z × (repeated ≡ any (Reading·repeated bytes) (below z))
+Inv-loop bytes zones seen₀ repeated₀ z₀ seen repeated z = NoneYet (badZone bytes) zones z × Seen bytes seen z × (repeated ≡ anyOf (Reading·repeated bytes) (numbersBelow z))
 
 abbrev μ-loop : tie.MeasureT-loop
 μ-loop bytes zones seen₀ repeated₀ z₀ seen repeated z = zones - z

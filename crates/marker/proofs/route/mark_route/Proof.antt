@@ -3,15 +3,16 @@
 use Prim.Native.Nat.{_-_}
 use mathlib.Core.Path.{refl}
 use native.Mathlib.Omega.{arith}
+use Rattle.model.specs.Track.{trackOf}
 use Rattle.marker.proofs.RouteLaws.{Following, no-word, no-step, step-on, not-home, at-home}
 use Rattle.marker.proofs.route.mark_route.Statement.{statement}
 use Rattle.marker.proofs.route.mark_route.Tie as tie
 
 abbrev Inv-loop : tie.InvT-loop
-Inv-loop home zones ends position carrier standing sheet from end w₀ point₀ i₀ w point i = Following home zones ends position carrier standing sheet from end w point i
+Inv-loop head ends position carrier standing sheet from end w₀ point₀ i₀ w point i = Following (trackOf head ends) position carrier standing sheet from end w point i
 
 abbrev μ-loop : tie.MeasureT-loop
-μ-loop home zones ends position carrier standing sheet from end w₀ point₀ i₀ w point i = end - i
+μ-loop head ends position carrier standing sheet from end w₀ point₀ i₀ w point i = end - i
 
 leaving-requires : tie.Need-leaving-requires Inv-loop μ-loop
 leaving-requires c κs = let a = c .before .before .before in omega (arith, a .pre .0 .ends-count)
@@ -19,7 +20,7 @@ leaving-requires c κs = let a = c .before .before .before in omega (arith, a .p
 loop-holds : tie.Need-loop-holds Inv-loop μ-loop
 loop-holds c =
     let a = c .before .before .before .before in
-    record { within = a .pre .2; room = a .pre .3; word = a .pre .1; leaves = c .leaving .ensures; same = λ points. refl }
+    record { room = a .pre .3; leaves = c .leaving .ensures; same = refl }
 
 mul-v : tie.Need-mul-v Inv-loop μ-loop
 mul-v c = omega (arith, c .before .loop .inv .room)
@@ -34,7 +35,7 @@ mul-if1 : tie.Need-mul-if1 Inv-loop μ-loop
 mul-if1 c = omega arith
 
 returns : tie.Need-returns Inv-loop μ-loop
-returns c = no-word (c .before .before .before .loop .inv) (c .before .before .loop-test .taken) (c .if1 .taken)
+returns c = let b = c .before .before .before in no-word (b .before .loop .inv) (b .loop-test .taken) (omega arith)
 
 may-step-requires : tie.Need-may-step-requires Inv-loop μ-loop
 may-step-requires c κs = omega arith
@@ -42,7 +43,8 @@ may-step-requires c κs = omega arith
 returns-2 : tie.Need-returns-2 Inv-loop μ-loop
 returns-2 c =
     let d = c .before .before in
-    no-step (d .before .before .before .loop .inv) (d .before .before .loop-test .taken) (d .if1 .left) (c .before .may-step .ensures) (c .if2 .taken)
+    let b = d .before .before .before in
+    no-step (b .before .loop .inv) (b .loop-test .taken) (d .if1 .left) (c .before .may-step .ensures) (c .if2 .taken)
 
 leaving-requires-2 : tie.Need-leaving-requires-2 Inv-loop μ-loop
 leaving-requires-2 c κs = omega arith
@@ -57,13 +59,14 @@ loop-again : tie.Need-loop-again Inv-loop μ-loop
 loop-again c =
     let e = c .before in
     let d = e .before .before in
-    step-on (d .before .before .before .loop .inv) (d .before .before .loop-test .taken) (d .if1 .left) (e .before .may-step .ensures) (e .if2 .left) (c .leaving2 .ensures)
+    let b = d .before .before .before in
+    step-on (b .before .loop .inv) (b .loop-test .taken) (d .if1 .left) (e .before .may-step .ensures) (e .if2 .left) (c .leaving2 .ensures)
 
 returns-3 : tie.Need-returns-3 Inv-loop μ-loop
-returns-3 c = not-home (c .before .before .loop .inv) (c .before .loop-test .left) (c .if3 .taken)
+returns-3 c = not-home (c .before .before .before .loop .inv) (c .before .before .loop-test .left) (c .if3 .taken)
 
 returns-4 : tie.Need-returns-4 Inv-loop μ-loop
-returns-4 c = at-home (c .before .before .loop .inv) (c .before .loop-test .left) (c .if3 .left)
+returns-4 c = at-home (c .before .before .before .loop .inv) (c .before .before .loop-test .left) (c .if3 .left)
 
 pub mark-route-spec : {M : Type 1} → statement M
 mark-route-spec =

@@ -6,7 +6,7 @@ use mathlib.Core.List.{List}
 use lib.ListN.{drop}
 use Rattle.rules.specs.Routes.{Entry}
 use Rattle.page.specs.Page.{entryLine}
-use Rattle.page.proofs.PutLaws.{Going, room-left, goes-on, ends}
+use Rattle.page.proofs.PutLaws.{Putting, room-left, goes-on, ends}
 use Rattle.page.proofs.PlanPut.{entryPieces, entry-starts}
 use Rattle.page.proofs.plan.put_entry.Statement.{statement}
 use Rattle.page.proofs.plan.put_entry.Tie as tie
@@ -17,7 +17,7 @@ entry s = record { carrier = s .args .carrier; words = s .args .words .now }
 
 -- what is left to write where n texts were put
 abbrev Left : ℕ → tie.Start → List ℕ → ℕ → Type 0
-Left n s page next = Going (s .args .at) (entryLine (entry s)) (s .args .page .now) (drop n (entryPieces (entry s))) page next
+Left n s page next = Putting (s .args .at) (entryLine (entry s)) (s .args .page .now) (drop n (entryPieces (entry s))) page next
 
 none-put : (s : tie.Start) → Left 0 s (s .args .page .now) (s .args .at)
 none-put s = entry-starts (entry s) (s .pre)

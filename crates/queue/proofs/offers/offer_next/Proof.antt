@@ -2,12 +2,12 @@
 -- The invariant: with the words of block k on stored from n on, the arrays are as they will be at the end, and below block k the set is done. The measure is 3 - k.
 use Prim.Native.Nat.{_+_, _-_, _*_}
 use native.Mathlib.Omega.{arith}
-use Rattle.queue.proofs.OfferBlocks.{Going, going-starts, going-room, going-more, going-done}
+use Rattle.queue.proofs.OfferBlocks.{OfferingBlocks, going-starts, going-room, going-more, going-done}
 use Rattle.queue.proofs.offers.offer_next.Statement.{statement}
 use Rattle.queue.proofs.offers.offer_next.Tie as tie
 
 abbrev Inv-loop : tie.InvT-loop
-Inv-loop follows last i found words₀ froms₀ enterable₀ n₀ k₀ words froms enterable n k = Going follows last i found words₀ froms₀ enterable₀ words froms enterable n k
+Inv-loop follows last i found words₀ froms₀ enterable₀ n₀ k₀ words froms enterable n k = OfferingBlocks follows last i found words₀ froms₀ enterable₀ words froms enterable n k
 
 abbrev μ-loop : tie.MeasureT-loop
 μ-loop follows last i found words₀ froms₀ enterable₀ n₀ k₀ words froms enterable n k = 3 - k
@@ -33,14 +33,14 @@ mul-next-3 c = omega arith
 slice-read-next : tie.Need-slice-read-next Inv-loop μ-loop
 slice-read-next c = omega arith
 
-mul-without : tie.Need-mul-without Inv-loop μ-loop
-mul-without c = omega arith
+mul-minus : tie.Need-mul-minus Inv-loop μ-loop
+mul-minus c = omega arith
 
-slice-read-without : tie.Need-slice-read-without Inv-loop μ-loop
-slice-read-without c = omega arith
+slice-read-minus : tie.Need-slice-read-minus Inv-loop μ-loop
+slice-read-minus c = omega arith
 
-without-requires : tie.Need-without-requires Inv-loop μ-loop
-without-requires c κs = tt
+minus-requires : tie.Need-minus-requires Inv-loop μ-loop
+minus-requires c κs = tt
 
 mul-enterable : tie.Need-mul-enterable Inv-loop μ-loop
 mul-enterable c = omega arith
@@ -63,7 +63,7 @@ loop-less c = omega arith
 loop-again : tie.Need-loop-again Inv-loop μ-loop
 loop-again c =
     let entered = c .before .before .before .before .before .before .before .before .before .before .before in
-    rw (c .before .before .before .before .before .before .before .without .ensures)
+    rw (c .before .before .before .before .before .before .before .minus .ensures)
     (going-more (entered .before .before .before .before .before .before .pre) (entered .before .loop .inv) (entered .loop-test .taken)
     (c .before .before .before .before .before .before .before .before .before .before .shared-slice-known2 .given (3 * entered .before .before .before .before .before .before .args .last + entered .before .loop .k) .fits)
     (c .before .before .before .before .before .before .before .before .before .slice-known4 .given (entered .before .loop .k) .fits)
@@ -94,9 +94,9 @@ offer-next-spec =
     shared-slice-read-next
     mul-next-3
     slice-read-next
-    mul-without
-    slice-read-without
-    without-requires
+    mul-minus
+    slice-read-minus
+    minus-requires
     mul-enterable
     slice-write-enterable
     mul-store-block

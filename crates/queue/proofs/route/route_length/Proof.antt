@@ -1,12 +1,12 @@
 -- `route_length` gives the count of words that lead from place 0 to the place asked for.
 -- The invariant: n - 1 words were passed, and the route is what leads to place j with them after it. The measure is j, which falls.
 use native.Mathlib.Omega.{arith}
-use Rattle.queue.proofs.Routing.{Counting, counting-starts, counting-more, counting-done}
+use Rattle.queue.proofs.Routing.{CountingWords, counting-starts, counting-more, counting-done}
 use Rattle.queue.proofs.route.route_length.Statement.{statement}
 use Rattle.queue.proofs.route.route_length.Tie as tie
 
 abbrev Inv-loop : tie.InvT-loop
-Inv-loop froms place n₀ j₀ n j = Counting froms place n j
+Inv-loop froms place n₀ j₀ n j = CountingWords froms place n j
 
 abbrev μ-loop : tie.MeasureT-loop
 μ-loop froms place n₀ j₀ n j = j

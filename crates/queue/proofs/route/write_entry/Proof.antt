@@ -39,7 +39,7 @@ add-write-route-2 : tie.Need-add-write-route-2
 add-write-route-2 c = omega (arith, entry-room (c .before .before .before .before .before .pre) (c .before .route-length .ensures), c .before .before .before .before .before .good)
 
 write-route-requires : tie.Need-write-route-requires
-write-route-requires c κs = (c .before .before .before .before .before .pre .readable, entry-fits (c .before .before .before .before .before .pre) (c .before .route-length .ensures))
+write-route-requires c κs = (c .before .before .before .before .before .pre .readable, entry-fits (c .before .before .before .before .before .pre) (c .before .route-length .ensures) _ _)
 
 add-result : tie.Need-add-result
 add-result c = search needs

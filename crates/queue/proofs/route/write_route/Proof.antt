@@ -2,12 +2,12 @@
 -- The invariant: the words after place j are stored from k on, and the route is what leads to j with them after it. The measure is j.
 use native.Mathlib.Omega.{arith}
 use borrow.Author.Needs.{needs}
-use Rattle.queue.proofs.Routing.{Storing, storing-starts, storing-room, storing-inside, storing-more, storing-done}
+use Rattle.queue.proofs.Routing.{StoringRoute, storing-starts, storing-room, storing-inside, storing-more, storing-done}
 use Rattle.queue.proofs.route.write_route.Statement.{statement}
 use Rattle.queue.proofs.route.write_route.Tie as tie
 
 abbrev Inv-loop : tie.InvT-loop
-Inv-loop words froms place plan₀ end k₀ j₀ plan k j = Storing words froms place plan₀ end plan k j
+Inv-loop words froms place plan₀ end k₀ j₀ plan k j = StoringRoute words froms place plan₀ end plan k j
 
 abbrev μ-loop : tie.MeasureT-loop
 μ-loop words froms place plan₀ end k₀ j₀ plan k j = j
@@ -25,7 +25,7 @@ shared-slice-read-plan : tie.Need-shared-slice-read-plan Inv-loop μ-loop
 shared-slice-read-plan c = omega arith
 
 cast-plan : tie.Need-cast-plan Inv-loop μ-loop
-cast-plan c = omega (arith, c .before .before .before .pre .0 .small (c .before .before .loop .j) (c .before .before .loop .inv .back .low))
+cast-plan c = let small = c .before .before .before .pre .0 .small in omega (arith, small (c .before .before .loop .j) (c .before .before .loop .inv .back .low), small (c .before .before .before .args .place) (omega arith))
 
 mul-plan-2 : tie.Need-mul-plan-2 Inv-loop μ-loop
 mul-plan-2 c = omega (arith, storing-inside (c .before .before .loop .inv), c .before .before .loop .inv .same, c .before .before .before .good)

@@ -1,5 +1,5 @@
 -- `fill_row` meets its contract: the row of w has the words of the point's row but for those of the zone of w, and no other row changes.
--- The contracts of `with` and `without` tell the block that is stored last; the law of one row filled of FollowLaws.
+-- The contracts of `with` and `minus` tell the block that is stored last; the law of one row filled of FollowLaws.
 use native.Mathlib.Omega.{arith}
 use borrow.Author.Needs.{needs}
 use lib.ListN.{length-set}
@@ -94,14 +94,14 @@ mul-block c = search needs
 add-block : tie.Need-add-block
 add-block c = search needs
 
-mul-without : tie.Need-mul-without
-mul-without c = search needs
+mul-minus : tie.Need-mul-minus
+mul-minus c = search needs
 
-slice-read-without : tie.Need-slice-read-without
-slice-read-without c = simp length-set (omega arith)
+slice-read-minus : tie.Need-slice-read-minus
+slice-read-minus c = simp length-set (omega arith)
 
-without-requires : tie.Need-without-requires
-without-requires c κs = search needs
+minus-requires : tie.Need-minus-requires
+minus-requires c κs = search needs
 
 mul-follows-13 : tie.Need-mul-follows-13
 mul-follows-13 c = search needs
@@ -117,7 +117,7 @@ returns c =
     let w2 = c .before .before in
     let known = w2 .before .before .before .before .before .before in
     let start = known .before in
-    row-filled _ _ _ _ (start .pre .2) (start .pre .1) (λ i. known .shared-slice-known .given i .fits) (w2 .with2 .ok) (w2 .before .with .ensures) (w2 .with2 .ensures) (c .without .ensures)
+    row-filled _ _ _ _ (start .pre .2) (start .pre .1) (λ i. known .shared-slice-known .given i .fits) (w2 .with2 .ok) (w2 .before .with .ensures) (w2 .with2 .ensures) (c .minus .ensures)
 
 pub fill-row-spec : {M : Type 1} → statement M
 fill-row-spec =
@@ -152,9 +152,9 @@ fill-row-spec =
     with-requires-2
     mul-block
     add-block
-    mul-without
-    slice-read-without
-    without-requires
+    mul-minus
+    slice-read-minus
+    minus-requires
     mul-follows-13
     slice-write-follows-4
     same-length

@@ -1,0 +1,41 @@
+// The operations for programs in C, C++ and Rust, under C's calling convention; include/nizkabel.h declares them. A slice is a pointer and a
+// count of elements. The lengths that an operation gives beside its number go to `out`. Each promise is the operation's own, whole, with
+// what `out` holds at exit in the place of those lengths.
+ghost use lib.ListN.{getD};
+ghost use Rattle.exam.specs.Operations.{KeyPromise, CollapsePromise, MarkPromise};
+
+// The key of the board: out[0] is the count of words in the plan, out[1] the count of carriers in the list.
+#[no_mangle]
+pub extern "C" fn nizkabel_key(
+    board: &[u8],
+    plan: &mut [u16],
+    list: &mut [u8],
+    out: &mut [u32; 2],
+) -> u32
+    ensures { λ r. ⌜ KeyPromise (now (board .entry)) (now (plan .entry)) (now (list .entry)) r (getD (now (out .exit)) 0 0) (getD (now (out .exit)) 1 0) (now (plan .exit)) (now (list .exit)) ⌝ }
+{
+    let key = exam::key(board, plan, list);
+    let planned = key.planned as u32;
+    let listed = key.listed as u32;
+    *out = [planned, listed];
+    key.verdict
+}
+
+// The collapse of the board: out[0] is the count of carriers in the list.
+#[no_mangle]
+pub extern "C" fn nizkabel_collapse(board: &[u8], list: &mut [u8], out: &mut [u32; 1]) -> u32
+    ensures { λ r. ⌜ CollapsePromise (now (board .entry)) (now (list .entry)) r (getD (now (out .exit)) 0 0) (now (list .exit)) ⌝ }
+{
+    let left = exam::collapse(board, list);
+    let listed = left.listed as u32;
+    *out = [listed];
+    left.number
+}
+
+// The number of a candidate's sheet.
+#[no_mangle]
+pub extern "C" fn nizkabel_mark(board: &[u8], sheet: &[u16]) -> u32
+    ensures { λ r. ⌜ MarkPromise (now (board .entry)) (now (sheet .entry)) r ⌝ }
+{
+    exam::mark(board, sheet)
+}

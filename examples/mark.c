@@ -1,13 +1,13 @@
-/* Draws the key of board K and marks two sheets. Prints: verdict 0, plan 7 2 0 3, marks 0 and 35. */
+/* Draws the key of board K and marks two sheets. Prints: verdict 0, plan 7 2 0 3, marks 0 and 35 */
 #include "nizkabel.h"
 #include <stdio.h>
 
 int main(void) {
     const uint8_t board[] = {0x00, 0x0C, 1, 2, 0, 2, 0, 1, 7, 0, 0, 1, 0, 0};
-    uint16_t plan[6];
-    uint8_t list[1];
+    uint16_t plan[NIZKABEL_PLAN_ROOM];
+    uint8_t list[NIZKABEL_LIST_ROOM];
     uint32_t out[2];
-    uint32_t verdict = nizkabel_key(board, sizeof board, plan, 6, list, 1, out);
+    uint32_t verdict = nizkabel_key(board, sizeof board, plan, NIZKABEL_PLAN_ROOM, list, NIZKABEL_LIST_ROOM, out);
     printf("verdict %u, plan", verdict);
     for (uint32_t i = 0; i < out[0]; i++) {
         printf(" %u", plan[i]);

@@ -1,11 +1,11 @@
-/* The key of a board, its collapse, and the mark of a sheet: the proved library, for C on x86-64 Linux.
+/* The key of a board, its collapse, and the mark of a sheet: the proved library, for C and C++ on x86-64 Linux.
  *
- * Link target/staticlib/libexports.a, which `rt staticlib exports` writes. The numbers are those of the table in the README; a call never
- * fails in another way, whatever the bytes. Lengths count elements. A pointer with length 0 may point anywhere that is not null. What a
- * call writes (plan, list, out) must not overlap anything else that it is lent.
+ * Link target/staticlib/libnizkabel.a, which ./build library makes. A call gives one of the numbers below and never fails in another way,
+ * whatever the bytes; it allocates nothing, and calls from several threads don't meet. Lengths count elements. A pointer with length 0 may
+ * point anywhere that is not null. What a call writes (plan, list, out) must not overlap anything else that it is lent.
  *
  * Plan: for each carrier in turn its number, the count of words of its route, the words; a word is 2 x zone + heading. Sheet: 0 and a plan,
- * or 1 and the blocked carriers ascending. 18624 words and 96 numbers are room enough for every board.
+ * or 1 and the blocked carriers ascending.
  */
 #ifndef NIZKABEL_H
 #define NIZKABEL_H
@@ -13,15 +13,58 @@
 #include <stddef.h>
 #include <stdint.h>
 
-/* Draws the key of a board. Gives the verdict: 0 ordered, 20 two or more carriers blocked, 21 exactly one, 1 to 11 turned back.
- * The plan's words and the blocked carriers' numbers are written from the start of plan and list; past them, and on 1 to 11, both stay
- * as they were. out[0] is the count of words in the plan, out[1] the count of numbers in the list; both are 0 on 1 to 11. */
+#ifdef __cplusplus
+extern "C" {
+#endif
+
+/* Rooms that are enough for every board: 96 carriers with 2 + 2 x 96 words each, and 96 numbers. */
+#define NIZKABEL_PLAN_ROOM 18624
+#define NIZKABEL_LIST_ROOM 96
+
+/* No call takes more bytes of stack, a first call through the dynamic linker included; a collapse or a mark takes half of it at most.
+ * The gate measures this. */
+#define NIZKABEL_STACK 16384
+
+/* The numbers, as in the README's table. L, P and Z are the board's length, points and zones, C the carriers out. */
+enum nizkabel_number {
+    NIZKABEL_ORDERED = 0,         /* key: all carriers go home */
+    NIZKABEL_COLLAPSED = 0,       /* collapse: done */
+    NIZKABEL_RIGHT = 0,           /* mark: the sheet is right */
+    NIZKABEL_TOO_SHORT = 1,       /* under 6 bytes */
+    NIZKABEL_WRONG_LENGTH = 2,    /* L isn't the count of bytes after it */
+    NIZKABEL_WRONG_VERSION = 3,   /* version isn't 1 */
+    NIZKABEL_OUT_OF_RANGE = 4,    /* P, home or Z out of range */
+    NIZKABEL_WRONG_COUNT = 5,     /* L isn't 4 + 4 x Z */
+    NIZKABEL_BAD_ZONE = 6,        /* an end not below P, equal ends, heading over 1, or a free zone with heading 1 */
+    NIZKABEL_CARRIER_TWICE = 7,   /* a carrier in two zones */
+    NIZKABEL_LOOSE_POINT = 8,     /* a point other than home with under two zones */
+    NIZKABEL_APART = 9,           /* points that don't hang together */
+    NIZKABEL_SHORT_PLAN = 10,     /* plan lent for under C x (2 + 2 x Z) words */
+    NIZKABEL_SHORT_LIST = 11,     /* list lent for under C numbers */
+    NIZKABEL_BLOCKED = 20,        /* two or more carriers are blocked */
+    NIZKABEL_ONE_BLOCKED = 21,    /* exactly one is */
+    NIZKABEL_BAD_SHEET = 30,      /* empty, starts with neither 0 nor 1, or an entry with under two words, a count of 0 or past the end */
+    NIZKABEL_NOT_OUT = 31,        /* the carrier isn't still out */
+    NIZKABEL_BAD_WORD = 32,       /* its first word isn't where it stands, or a word breaks the rules */
+    NIZKABEL_NOT_HOME = 33,       /* its last word doesn't leave at home */
+    NIZKABEL_STILL_OUT = 34,      /* a carrier is still out at the end */
+    NIZKABEL_FALSE_CLAIM = 35     /* a false claim of blocked */
+};
+
+/* Draws the key of a board. Gives 0, 20 or 21, or 1 to 11 where it is turned back. The plan's words and the blocked carriers' numbers are
+ * written from the start of plan and list; past them, and on 1 to 11, both stay as they were. out[0] is the count of words in the plan,
+ * out[1] the count of numbers in the list; both are 0 on 1 to 11. */
 uint32_t nizkabel_key(const uint8_t *board, size_t board_len, uint16_t *plan, size_t plan_len, uint8_t *list, size_t list_len, uint32_t out[2]);
 
-/* Collapses a board. Gives 0, or 1 to 9 or 11. out[0] is the count of carriers left, whose numbers are written to the list ascending. */
+/* Collapses a board. Gives 0, or 1 to 9 or 11. out[0] is the count of carriers left, whose numbers are written to the list ascending; on
+ * 1 to 9 and 11 it is 0, and the list stays as it was. */
 uint32_t nizkabel_collapse(const uint8_t *board, size_t board_len, uint8_t *list, size_t list_len, uint32_t out[1]);
 
 /* Marks a sheet: 0 where it is right, 30 to 35 where it is not, 1 to 9 for a bad board. Nothing is written. */
 uint32_t nizkabel_mark(const uint8_t *board, size_t board_len, const uint16_t *sheet, size_t sheet_len);
+
+#ifdef __cplusplus
+}
+#endif
 
 #endif

@@ -48,10 +48,10 @@ fn agree(board: &[u8], sheet: &[u16]) {
     let (mut plan, mut list) = (vec![0u16; 96 * 194], vec![0u8; 96]);
     let (mut port_plan, mut port_list) = (plan.clone(), list.clone());
     let key = nizkabel::key(board, &mut plan, &mut list);
-    assert_eq!((key.verdict, key.words, key.count), port::key(board, &mut port_plan, &mut port_list, false));
+    assert_eq!((key.verdict, key.planned, key.listed), port::key(board, &mut port_plan, &mut port_list, false));
     assert_eq!((&plan, &list), (&port_plan, &port_list));
     let collapse = nizkabel::collapse(board, &mut list);
-    assert_eq!((collapse.number, collapse.count), port::collapse(board, &mut port_list));
+    assert_eq!((collapse.number, collapse.listed), port::collapse(board, &mut port_list));
     assert_eq!(list, port_list);
     assert_eq!((nizkabel::mark(board, sheet), port::mark(board, sheet)), (0, 0));
 }
@@ -95,7 +95,8 @@ fn group(name: &str, boards: Vec<Board>, rounds: usize) {
     row(name, "mark", &mark, &[("port", &mark_port), ("second", &mark_second)]);
 }
 
-/// One line: the median time, and the median over the rounds of its ratio to each other program's time in the same round.
+/// One line: the median time, and the median over the rounds of its ratio to each other program's time in the same round. The second
+/// implementation is timed apart, in few rounds on few boards: its ratio tells only the order of size.
 fn row(name: &str, what: &str, ours: &[f64], others: &[(&str, &[f64])]) {
     let ratio = |others: &[f64]| median(ours.iter().zip(others).map(|(a, b)| a / b).collect());
     let ratios: Vec<String> = others.iter().map(|(who, times)| format!("{who} {:.3}", ratio(times))).collect();

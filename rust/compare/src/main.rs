@@ -38,7 +38,7 @@ fn compare_key(tally: &mut Tally, bytes: &[u8], plan_room: usize, list_room: usi
     whole_plan.resize(plan_room.max(whole_plan.len()), CANARY_WORD);
     let mut whole_list: Vec<u8> = expected.list.iter().map(|&c| c as u8).collect();
     whole_list.resize(list_room.max(whole_list.len()), CANARY_BYTE);
-    let same = got.verdict == expected.verdict && got.words == expected.plan.len() && got.count == expected.list.len();
+    let same = got.verdict == expected.verdict && got.planned == expected.plan.len() && got.listed == expected.list.len();
     if !same || plan != whole_plan || list != whole_list {
         differ("key", bytes, format!("expected {expected:?}\ngot {got:?}\nplan {plan:?}\nlist {list:?}"));
     }
@@ -49,7 +49,7 @@ fn compare_key(tally: &mut Tally, bytes: &[u8], plan_room: usize, list_room: usi
     let got = nizkabel::collapse(bytes, &mut list);
     let mut whole_list: Vec<u8> = left.iter().map(|&c| c as u8).collect();
     whole_list.resize(list_room.max(whole_list.len()), CANARY_BYTE);
-    if got.number != number || got.count != left.len() || list != whole_list {
+    if got.number != number || got.listed != left.len() || list != whole_list {
         differ("collapse", bytes, format!("expected {number} {left:?}\ngot {got:?}\nlist {list:?}"));
     }
 }

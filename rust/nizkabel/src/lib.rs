@@ -1,30 +1,40 @@
-//! A safe Rust wrapper of the proved library: the key of a board, its collapse, and the mark of a sheet.
+//! A safe Rust wrapper of the proved library: the key of a board, its collapse, and the mark of a sheet. The functions here write into
+//! slices that the caller lends, and allocate nothing; those of [`owned`] give vectors. The numbers are those of the table in the
+//! repository's README.
 //!
 //! ```
 //! // Board K of document 01: two points, two zones, carrier 7 in zone 0.
 //! let board = [0x00, 0x0C, 1, 2, 0, 2, 0, 1, 7, 0, 0, 1, 0, 0];
-//! let mut plan = [0u16; 6];
-//! let mut list = [0u8; 1];
+//! let mut plan = [0u16; nizkabel::PLAN_ROOM];
+//! let mut list = [0u8; nizkabel::LIST_ROOM];
 //! let key = nizkabel::key(&board, &mut plan, &mut list);
-//! assert_eq!((key.verdict, key.words, key.count), (0, 4, 0));
-//! assert_eq!(plan[..4], [7, 2, 0, 3]);
+//! assert_eq!((key.verdict, key.planned, key.listed), (0, 4, 0));
+//! assert_eq!(plan[..key.planned], [7, 2, 0, 3]);
 //! assert_eq!(nizkabel::mark(&board, &[0, 7, 2, 0, 3]), 0);
 //! ```
+
+pub mod owned;
+
+/// Words of a plan that are room enough for every board: 96 carriers with 2 + 2 × 96 words each.
+pub const PLAN_ROOM: usize = 18_624;
+
+/// Numbers of a list that are room enough for every board.
+pub const LIST_ROOM: usize = 96;
 
 /// What the key gives: the verdict (0 ordered, 20 two or more blocked, 21 one blocked, 1 to 11 turned back), the count of words written to
 /// the plan, the count of numbers written to the list.
 #[derive(Clone, Copy, Debug, PartialEq, Eq)]
 pub struct Key {
     pub verdict: u32,
-    pub words: usize,
-    pub count: usize,
+    pub planned: usize,
+    pub listed: usize,
 }
 
 /// What the collapse gives: its number (0, or 1 to 9 or 11), and the count of numbers written to the list.
 #[derive(Clone, Copy, Debug, PartialEq, Eq)]
 pub struct Collapse {
     pub number: u32,
-    pub count: usize,
+    pub listed: usize,
 }
 
 // Declared as in include/nizkabel.h.
@@ -34,20 +44,20 @@ extern "C" {
     fn nizkabel_mark(board: *const u8, board_len: usize, sheet: *const u16, sheet_len: usize) -> u32;
 }
 
-/// Draws the key. Past what is written, plan and list stay as they were. 18,624 words and 96 numbers are room enough for every board.
+/// Draws the key. Past what is written, and on 1 to 11, plan and list stay as they were.
 pub fn key(board: &[u8], plan: &mut [u16], list: &mut [u8]) -> Key {
     let mut out = [0u32; 2];
     // SAFETY: each pointer comes with the length of the slice that it points to, and out has two elements.
     let verdict = unsafe { nizkabel_key(board.as_ptr(), board.len(), plan.as_mut_ptr(), plan.len(), list.as_mut_ptr(), list.len(), out.as_mut_ptr()) };
-    Key { verdict, words: out[0] as usize, count: out[1] as usize }
+    Key { verdict, planned: out[0] as usize, listed: out[1] as usize }
 }
 
-/// Collapses the board. Past what is written, the list stays as it was.
+/// Collapses the board. Past what is written, and on 1 to 11, the list stays as it was.
 pub fn collapse(board: &[u8], list: &mut [u8]) -> Collapse {
     let mut out = [0u32; 1];
     // SAFETY: as for key; out has one element.
     let number = unsafe { nizkabel_collapse(board.as_ptr(), board.len(), list.as_mut_ptr(), list.len(), out.as_mut_ptr()) };
-    Collapse { number, count: out[0] as usize }
+    Collapse { number, listed: out[0] as usize }
 }
 
 /// Marks a sheet: 0 where it is right, 30 to 35 where it is not, 1 to 9 for a bad board.

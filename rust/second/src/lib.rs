@@ -3,6 +3,7 @@
 
 mod board;
 mod collapse;
+pub mod document_01;
 mod key;
 mod small;
 mod sheet;

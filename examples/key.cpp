@@ -1,0 +1,26 @@
+// Draws the key of the board `turn` with room that is enough for every board, and prints each carrier's route.
+// Prints: home 5: 0+ 1+ 2- 0-, 0 blocked
+#include "nizkabel.h"
+#include <cstdio>
+#include <vector>
+
+int main() {
+    const std::vector<uint8_t> board = {0, 16, 1, 3, 0, 3, 0, 1, 5, 0, 1, 2, 0, 0, 1, 2, 0, 0};
+    std::vector<uint16_t> plan(NIZKABEL_PLAN_ROOM);
+    std::vector<uint8_t> list(NIZKABEL_LIST_ROOM);
+    uint32_t out[2];
+    const uint32_t verdict = nizkabel_key(board.data(), board.size(), plan.data(), plan.size(), list.data(), list.size(), out);
+    if (verdict != NIZKABEL_ORDERED && verdict != NIZKABEL_BLOCKED && verdict != NIZKABEL_ONE_BLOCKED) {
+        std::printf("refused %u\n", verdict);
+        return 1;
+    }
+    for (uint32_t entry = 0; entry < out[0]; entry += 2 + plan[entry + 1]) {
+        std::printf("home %u:", plan[entry]);
+        for (uint32_t i = entry + 2; i < entry + 2 + plan[entry + 1]; i++) {
+            std::printf(" %u%c", plan[i] / 2, plan[i] % 2 == 0 ? '+' : '-');
+        }
+        std::printf(", ");
+    }
+    std::printf("%u blocked\n", out[1]);
+    return 0;
+}

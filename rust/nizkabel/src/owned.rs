@@ -1,0 +1,109 @@
+//! The same operations with what they give in vectors. They lend the library room that is enough for every board, so 10 and 11 don't
+//! come, and a board that isn't accepted is an error.
+//!
+//! ```
+//! use nizkabel::owned;
+//!
+//! # fn main() -> Result<(), owned::Refused> {
+//! // T with carriers 7 heading out and 9 heading home: 9 goes first, and 7 then goes round.
+//! let board = [0x00, 0x0C, 1, 2, 0, 2, 0, 1, 7, 0, 0, 1, 9, 1];
+//! let key = owned::key(&board)?;
+//! assert_eq!(key.verdict, 0);
+//! for entry in &key.entries {
+//!     println!("{} goes home by {:?}", entry.carrier, entry.words);
+//! }
+//! assert_eq!(key.entries[1].words, [0, 3]);
+//! assert!(key.blocked.is_empty());
+//!
+//! let refused = owned::key(&board[..13]).unwrap_err();
+//! assert_eq!(refused.number(), 2);
+//! assert_eq!(refused.to_string(), "refused 2: L isn't the count of bytes after it");
+//! # Ok(())
+//! # }
+//! ```
+
+use crate::{LIST_ROOM, PLAN_ROOM};
+use std::fmt;
+
+/// One carrier's way home: the words of its route, each 2 × zone + heading.
+#[derive(Clone, Debug, PartialEq, Eq)]
+pub struct Entry {
+    pub carrier: u16,
+    pub words: Vec<u16>,
+}
+
+/// The key of an accepted board: the verdict (0 ordered, 20 two or more blocked, 21 one blocked), the carriers that go home in their
+/// order, and the blocked ones ascending.
+#[derive(Clone, Debug, PartialEq, Eq)]
+pub struct Key {
+    pub verdict: u32,
+    pub entries: Vec<Entry>,
+    pub blocked: Vec<u8>,
+}
+
+/// Why a board isn't accepted: a number from 1 to 9.
+#[derive(Clone, Copy, Debug, PartialEq, Eq)]
+pub struct Refused(u32);
+
+impl Refused {
+    pub fn number(self) -> u32 {
+        self.0
+    }
+
+    fn unless_accepted(number: u32) -> Result<(), Refused> {
+        if (1..=9).contains(&number) { Err(Refused(number)) } else { Ok(()) }
+    }
+}
+
+impl fmt::Display for Refused {
+    fn fmt(&self, f: &mut fmt::Formatter<'_>) -> fmt::Result {
+        let row = match self.0 {
+            1 => "under 6 bytes",
+            2 => "L isn't the count of bytes after it",
+            3 => "version isn't 1",
+            4 => "P, home or Z out of range",
+            5 => "L isn't 4 + 4 × Z",
+            6 => "an end not below P, equal ends, heading over 1, or a free zone with heading 1",
+            7 => "a carrier in two zones",
+            8 => "a point other than home with under two zones",
+            _ => "points that don't hang together",
+        };
+        write!(f, "refused {}: {row}", self.0)
+    }
+}
+
+impl std::error::Error for Refused {}
+
+/// Draws the key.
+pub fn key(board: &[u8]) -> Result<Key, Refused> {
+    let mut plan = vec![0; PLAN_ROOM];
+    let mut blocked = vec![0; LIST_ROOM];
+    let key = crate::key(board, &mut plan, &mut blocked);
+    Refused::unless_accepted(key.verdict)?;
+    blocked.truncate(key.listed);
+    let mut entries = Vec::new();
+    let mut rest = &plan[..key.planned];
+    // The library's plans are whole: each entry has its carrier, its count and as many words.
+    while let [carrier, count, words @ ..] = rest {
+        let (words, next) = words.split_at(usize::from(*count));
+        entries.push(Entry { carrier: *carrier, words: words.to_vec() });
+        rest = next;
+    }
+    Ok(Key { verdict: key.verdict, entries, blocked })
+}
+
+/// The carriers that the collapse leaves, ascending.
+pub fn collapse(board: &[u8]) -> Result<Vec<u8>, Refused> {
+    let mut left = vec![0; LIST_ROOM];
+    let collapse = crate::collapse(board, &mut left);
+    Refused::unless_accepted(collapse.number)?;
+    left.truncate(collapse.listed);
+    Ok(left)
+}
+
+/// Marks a sheet: 0 where it is right, 30 to 35 where it is not.
+pub fn mark(board: &[u8], sheet: &[u16]) -> Result<u32, Refused> {
+    let number = crate::mark(board, sheet);
+    Refused::unless_accepted(number)?;
+    Ok(number)
+}

@@ -10,8 +10,7 @@ use lib.Bits.{bitOr}
 use lib.Dec.{eqb}
 use borrow.Author.Tests.{eqb-true, eqb-false, eq-eqb}
 use Rattle.model.specs.Lists.{numbersBelow, anyOf, allOf, howMany}
-use Rattle.model.specs.Track.{Linked, rev, start, leave}
-use Rattle.model.specs.Track.Linked.{here}
+use Rattle.model.specs.Track.{rev, start, leave}
 use Rattle.model.specs.Labels.{label, parts}
 use Rattle.model.specs.Reading.{pointsSaid, homeSaid, zonesSaid, outOfRange, badZone, trackSaid, apart, endSaid}
 use Rattle.model.proofs.ListLaws.{all-below, below-all}

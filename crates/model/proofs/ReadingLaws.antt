@@ -270,10 +270,6 @@ module _ (b : List ℕ) where
   unfolding trackSaid
   length-ends = length-map (numbersBelow (2 * zonesSaid b)) (endSaid b) ∙ length-below (2 * zonesSaid b)
 
-  pub zones-said : trackSaid b .zones ≡ zonesSaid b
-  unfolding trackSaid
-  zones-said = refl
-
 -- row 6 of words
 pub start-in : (b : List ℕ) → anyOf (badZone b) (numbersBelow (zonesSaid b)) ≡ false → (w : ℕ) → w < 2 * zonesSaid b → start (trackSaid b) w < pointsSaid b
 start-in b zones w h = go (heading-cases b w)

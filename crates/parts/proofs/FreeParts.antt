@@ -9,7 +9,6 @@ use borrow.Author.Tests.{eqb-true, eq-eqb}
 use lib.Dec.{eqb, leb}
 use Rattle.model.specs.Lists.{numbersBelow, howMany}
 use Rattle.model.specs.Track.{Track, Linked, start}
-use Rattle.model.specs.Track.Linked.{over}
 use Rattle.model.specs.Position.{Position, isFree}
 use Rattle.model.specs.Labels.{label}
 use Rattle.model.proofs.BoolLaws.{not-true-false, same-test}

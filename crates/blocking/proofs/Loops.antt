@@ -1,25 +1,26 @@
 -- What a free part is, and what its loop is for: into a part with a loop a carrier turns, in a part with none no walk comes back.
 -- The labels of the collapse meet the linked points of the walks here; above this file no label is read.
 use Prim.Native.Nat.{ℕ, _*_, _<_}
-use mathlib.Core.List.{List, []}
-use mathlib.Core.Path.{_≡_, sym, _∙_, ap, ap₂}
+use mathlib.Core.List.{List, [], _∷_, cons-ne-nil}
+use mathlib.Core.Path.{_≡_, refl, sym, _∙_, ap, ap₂, subst}
 use mathlib.Core.Logic.{_↔_}
 use mathlib.Core.Bool.{Bool, true, false, not, _&&_}
 use native.Mathlib.Omega.{arith}
 use lib.Dec.{eqb, leb}
 use borrow.Author.Tests.{eqb-true, eq-eqb, leb-true, leb-false}
 use Rattle.model.specs.Lists.{numbersBelow, howMany}
-use Rattle.model.specs.Track.{Track, Linked, zoneOf, start, leave}
+use Rattle.model.specs.Track.{Track, TurningLoop, Linked, zoneOf, start, leave}
 use Rattle.model.specs.Position.{Position, at, isFree, Stands, standing}
 use Rattle.model.specs.Labels.{label}
 use Rattle.model.specs.Accepted.{Laid}
 use Rattle.rules.specs.Collapse.{freeParts, loopIn, turns}
 use Rattle.model.proofs.BoolLaws.{same-test}
 use Rattle.model.proofs.CountLaws.{how-many-below-ext}
+use Rattle.model.proofs.WordLaws.{zone-first, first-below}
 use Rattle.model.proofs.PositionLaws.{stands-word, stands-not-free}
 use Rattle.model.proofs.LinkLaws.{linked-mono}
 use Rattle.model.proofs.LabelLaws.{parts-linked, linked-parts}
-use Rattle.turning.specs.Walks.{Walk}
+use Rattle.turning.specs.Walks.{Walk, stay}
 use Rattle.turning.proofs.Turning.{turns-with-loop, no-turn-without}
 use Rattle.blocking.proofs.Standings.{free-number, number-free}
 
@@ -69,3 +70,20 @@ module _ {t : Track} {p : Position} (laid : Laid t p) where
       where
         same : (q : ℕ) → q < t .points → within q ≡ test q
         same q h = same-test (within q) (test q) (λ e. agrees q h .1 (within-linked q h .0 e)) (λ e. within-linked q h .1 (agrees q h .0 e))
+
+  -- document 02: a free part with a turning loop holds a loop. Once round it is a walk that comes back.
+  pub turning-loop : (z : ℕ) → z < t .zones → TurningLoop t z → at p z ≡ 0 → loopIn t p (freeParts t p) (label (freeParts t p) (start t (2 * z))) ≡ true
+  turning-loop z h l free = go (loopIn t p (freeParts t p) (label (freeParts t p) point)) refl
+    where
+      point : ℕ
+      point = start t (2 * z)
+
+      below : 2 * z < 2 * t .zones
+      below = first-below (t .zones) z h
+
+      round : Walk t (isFree p) point (2 * z ∷ []) point
+      round = Walk.go (2 * z) below (ap (isFree p) (zone-first z) ∙ number-free p z free) refl tt (subst (λ x. Walk t (isFree p) x [] point) l stay)
+
+      go : (b : Bool) → loopIn t p (freeParts t p) (label (freeParts t p) point) ≡ b → b ≡ true
+      go true e = refl
+      go false e = absurd (cons-ne-nil (2 * z) [] (no-loop-stays point (laid .inside (2 * z) below) e (2 * z ∷ []) round))

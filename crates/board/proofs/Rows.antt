@@ -50,7 +50,7 @@ module _ {b : List ℕ} {p h z : ℕ} (P : ByteAt b 3 p) (H : ByteAt b 4 h) (Z :
   many-zones i j k l = ltb-is 96 z ∙ sym (range-row ∙ simp (le-leb 2 p i, le-leb p 64 j, lt-ltb h p k, le-leb 2 z l))
 
 module _ {b : List ℕ} (z : ℕ) {p a e c h : ℕ} (P : ByteAt b 3 p) (A : ByteAt b (4 * z + 6) a) (E : ByteAt b (4 * z + 7) e) (C : ByteAt b (4 * z + 8) c) (H : ByteAt b (4 * z + 9) h) where
-  zone-row : badZone b z ≡ (not (ltb a p) || (not (ltb e p) || (eqb a e || (not (leb h 1) || (eqb c 0 && eqb h 1)))))
+  zone-row : badZone b z ≡ (not (ltb a p) || (not (ltb e p) || (not (leb h 1) || (eqb c 0 && eqb h 1))))
   unfolding badZone
   zone-row = rw (P .is, A .is, E .is, C .is, H .is)
 
@@ -60,14 +60,11 @@ module _ {b : List ℕ} (z : ℕ) {p a e c h : ℕ} (P : ByteAt b 3 p) (A : Byte
   pub far-end-B : a < p → p ≤ e → true ≡ badZone b z
   far-end-B i l = sym (zone-row ∙ simp (lt-ltb a p i, le-ltb e p l))
 
-  pub equal-ends : a < p → e < p → a ≡ e → true ≡ badZone b z
-  equal-ends i j l = sym (zone-row ∙ simp (lt-ltb a p i, lt-ltb e p j, eq-eqb a e l))
+  pub wrong-heading : a < p → e < p → 1 < h → true ≡ badZone b z
+  wrong-heading i j l = sym (zone-row ∙ simp (lt-ltb a p i, lt-ltb e p j, lt-leb h 1 l))
 
-  pub wrong-heading : a < p → e < p → (a ≡ e → ⊥) → 1 < h → true ≡ badZone b z
-  wrong-heading i j k l = sym (zone-row ∙ simp (lt-ltb a p i, lt-ltb e p j, ne-eqb a e k, lt-leb h 1 l))
+  pub held-zone : a < p → e < p → h ≤ 1 → (c ≡ 0 → ⊥) → false ≡ badZone b z
+  held-zone i j l m = sym (zone-row ∙ simp (lt-ltb a p i, lt-ltb e p j, le-leb h 1 l, ne-eqb c 0 m))
 
-  pub held-zone : a < p → e < p → (a ≡ e → ⊥) → h ≤ 1 → (c ≡ 0 → ⊥) → false ≡ badZone b z
-  held-zone i j k l m = sym (zone-row ∙ simp (lt-ltb a p i, lt-ltb e p j, ne-eqb a e k, le-leb h 1 l, ne-eqb c 0 m))
-
-  pub free-zone : a < p → e < p → (a ≡ e → ⊥) → h ≤ 1 → c ≡ 0 → eqb h 1 ≡ badZone b z
-  free-zone i j k l m = sym (zone-row ∙ simp (lt-ltb a p i, lt-ltb e p j, ne-eqb a e k, le-leb h 1 l, eq-eqb c 0 m))
+  pub free-zone : a < p → e < p → h ≤ 1 → c ≡ 0 → eqb h 1 ≡ badZone b z
+  free-zone i j l m = sym (zone-row ∙ simp (lt-ltb a p i, lt-ltb e p j, le-leb h 1 l, eq-eqb c 0 m))

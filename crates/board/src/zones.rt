@@ -6,7 +6,7 @@ ghost use lib.ListN.{length};
 ghost use Rattle.model.specs.Reading.{badZone};
 ghost use Rattle.board.specs.Inner.{Whole, zoneRefusal};
 
-// Row 6, of one zone: an end not below P, equal ends, heading over 1, or free with heading 1.
+// Row 6, of one zone: an end not below P, heading over 1, or free with heading 1.
 fn bad(bytes: &[u8], z: usize) -> bool
     requires { ⌜ (z < 256) × (4 * z + 9 < length (now bytes)) ⌝ }
     ensures { λ r. ⌜ r ≡ badZone (now (bytes .entry)) z ⌝ }
@@ -20,9 +20,6 @@ fn bad(bytes: &[u8], z: usize) -> bool
         return true;
     }
     if points <= b {
-        return true;
-    }
-    if a == b {
         return true;
     }
     if 1 < heading {

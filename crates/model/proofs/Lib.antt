@@ -4,6 +4,7 @@ pub mod CountLaws
 pub mod AscendingLaws
 pub mod PlaceLaws
 pub mod WordLaws
+pub mod LoopLaws
 pub mod PositionLaws
 pub mod MoveLaws
 pub mod LinkLaws

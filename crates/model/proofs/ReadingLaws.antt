@@ -10,7 +10,7 @@ use lib.ListN.{length, getD, length-map, List·getD-eq-default}
 use lib.Dec.{leb, ltb, eqb}
 use borrow.Author.Tests.{ltb-true, ltb-false, leb-true, eqb-true, eqb-false, eq-eqb, ne-eqb, not-true, not-false}
 use Rattle.model.specs.Lists.{numbersBelow, anyOf, allOf, howMany}
-use Rattle.model.specs.Track.{zoneOf, headingOf, rev, start}
+use Rattle.model.specs.Track.{zoneOf, headingOf, start}
 use Rattle.model.specs.Position.{at, Stands, Once}
 use Rattle.model.specs.Labels.{label, parts}
 use Rattle.model.specs.Reading.{byte, endSaid, pointsSaid, homeSaid, zonesSaid, endA, endB, carrierIn, headingIn, trackSaid, positionSaid, tooShort, wrongLength, wrongVersion, outOfRange, wrongCount, badZone, repeated, underTwo, apart, refusal}
@@ -18,7 +18,7 @@ use Rattle.model.specs.Accepted.{HangsTogether, AcceptedTrack, Laid, hel
 use Rattle.model.proofs.BoolLaws.{both-ways, decided, and-left, and-right, and-both, or-false-left, or-false-right}
 use Rattle.model.proofs.ListLaws.{length-below, any-below-false, below-any, all-below, all-below-false}
 use Rattle.model.proofs.PlaceLaws.{getD-map-below}
-use Rattle.model.proofs.WordLaws.{zone-below, rev-below}
+use Rattle.model.proofs.WordLaws.{zone-below}
 use Rattle.model.proofs.LinkLaws.{linked-mono}
 use Rattle.model.proofs.LabelLaws.{parts-linked, linked-parts}
 
@@ -135,7 +135,6 @@ pub record InRange (b : List ℕ) : Type 0 where
 pub record GoodZone (b : List ℕ) (z : ℕ) : Type 0 where
   pub a-in : endA b z < pointsSaid b
   pub b-in : endB b z < pointsSaid b
-  pub differ : endA b z ≡ endB b z → ⊥
   pub heading : headingIn b z ≤ 1
   pub free-heading : carrierIn b z ≡ 0 → headingIn b z ≡ 1 → ⊥
 
@@ -176,19 +175,15 @@ module _ (b : List ℕ) where
   good-zone zones z h = record {
     a-in = ltb-true (endA b z) (pointsSaid b) (not-false (ltb (endA b z) (pointsSaid b)) (or-false-left (not (ltb (endA b z) (pointsSaid b))) r1 f1));
     b-in = ltb-true (endB b z) (pointsSaid b) (not-false (ltb (endB b z) (pointsSaid b)) (or-false-left (not (ltb (endB b z) (pointsSaid b))) r2 f2));
-    differ = eqb-false (endA b z) (endB b z) (or-false-left (eqb (endA b z) (endB b z)) r3 f3);
-    heading = leb-true (headingIn b z) 1 (not-false (leb (headingIn b z) 1) (or-false-left (not (leb (headingIn b z) 1)) r4 f4));
-    free-heading = λ c g. both-ways (and-both (eqb (carrierIn b z) 0) (eqb (headingIn b z) 1) (eq-eqb (carrierIn b z) 0 c) (eq-eqb (headingIn b z) 1 g)) (or-false-right (not (leb (headingIn b z) 1)) r4 f4);
+    heading = leb-true (headingIn b z) 1 (not-false (leb (headingIn b z) 1) (or-false-left (not (leb (headingIn b z) 1)) r3 f3));
+    free-heading = λ c g. both-ways (and-both (eqb (carrierIn b z) 0) (eqb (headingIn b z) 1) (eq-eqb (carrierIn b z) 0 c) (eq-eqb (headingIn b z) 1 g)) (or-false-right (not (leb (headingIn b z) 1)) r3 f3);
   }
     where
-      r4 : Bool
-      r4 = eqb (carrierIn b z) 0 && eqb (headingIn b z) 1
-
       r3 : Bool
-      r3 = not (leb (headingIn b z) 1) || r4
+      r3 = eqb (carrierIn b z) 0 && eqb (headingIn b z) 1
 
       r2 : Bool
-      r2 = eqb (endA b z) (endB b z) || r3
+      r2 = not (leb (headingIn b z) 1) || r3
 
       r1 : Bool
       r1 = not (ltb (endB b z) (pointsSaid b)) || r2
@@ -201,9 +196,6 @@ module _ (b : List ℕ) where
 
       f3 : r2 ≡ false
       f3 = or-false-right (not (ltb (endB b z) (pointsSaid b))) r2 f2
-
-      f4 : r3 ≡ false
-      f4 = or-false-right (eqb (endA b z) (endB b z)) r3 f3
 
 module _ (b : List ℕ) (n : NoRow b) where
   -- row 7: no carrier in two zones
@@ -282,22 +274,6 @@ start-in b zones w h = go (heading-cases b w)
     go (inr e) = rw (start-b b w h e) (good .b-in)
 
 module _ (b : List ℕ) (n : NoRow b) where
-  ends-apart : (w : ℕ) → w < 2 * zonesSaid b → start (trackSaid b) w ≡ start (trackSaid b) (rev w) → ⊥
-  ends-apart w h q = go (heading-cases b w)
-    where
-      good : GoodZone b (zoneOf w)
-      good = good-zone b (n .zones) (zoneOf w) (zone-below (zonesSaid b) w h)
-
-      k : rev w < 2 * zonesSaid b
-      k = rev-below (zonesSaid b) w h
-
-      z : zoneOf (rev w) ≡ zoneOf w
-      z = omega arith
-
-      go : (headingOf w ≡ 0) ⊎ (headingOf w ≡ 1) → ⊥
-      go (inl e) = good .differ (sym (start-a b w h e) ∙ q ∙ start-b b (rev w) k (omega arith) ∙ ap (endB b) z)
-      go (inr e) = good .differ (ap (endA b) (sym z) ∙ sym (start-a b (rev w) k (omega arith)) ∙ sym q ∙ start-b b w h e)
-
   -- the carrier of a standing is the byte of its zone
   stands-said : (c w : ℕ) → Stands (positionSaid b) c w → (zoneOf w < zonesSaid b) × (carrierIn b (zoneOf w) ≡ c) × (headingIn b (zoneOf w) ≡ headingOf w)
   stands-said c w s =
@@ -388,7 +364,6 @@ accepted-track b e =
       zones-least = r .zones-least;
       zones-most = r .zones-most;
       ends-count = length-ends b;
-      ends-differ = ends-apart b n;
       two-zones = not-under-two b n;
       hangs = hangs-said b n (together b e);
     }

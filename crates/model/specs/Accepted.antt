@@ -5,7 +5,7 @@ use mathlib.Core.Path.{_≡_}
 use lib.ListN.{length}
 use lib.Dec.{eqb}
 use Rattle.model.specs.Lists.{howMany}
-use Rattle.model.specs.Track.{Track, Linked, start, leave}
+use Rattle.model.specs.Track.{Track, Linked, start}
 use Rattle.model.specs.Position.{Position, at, Once}
 
 -- every two points are linked over zones
@@ -19,7 +19,6 @@ pub record AcceptedTrack (t : Track) : Type 0 where
   pub zones-least : 2 ≤ t .zones
   pub zones-most : t .zones ≤ 96
   pub ends-count : length (t .ends) ≡ 2 * t .zones
-  pub ends-differ : (w : ℕ) → w < 2 * t .zones → start t w ≡ leave t w → ⊥
   -- each point but home has at least two zones
   pub two-zones : (q : ℕ) → q < t .points → (q ≡ t .home → ⊥) → 2 ≤ howMany (eqb q) (t .ends)
   pub hangs : HangsTogether t

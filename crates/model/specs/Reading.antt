@@ -75,20 +75,19 @@ module _ (b : List ℕ) where
   unfoldable pub wrongCount : Bool
   wrongCount = not (eqb lengthSaid (4 + 4 * zonesSaid))
 
-  -- row 6, of one zone: an end not below P, equal ends, heading over 1, or a free zone with heading 1
+  -- row 6, of one zone: an end not below P, heading over 1, or a free zone with heading 1. Equal ends are allowed.
   unfoldable pub badZone : ℕ → Bool
   badZone z =
       not (ltb (endA z) pointsSaid) ||
       (not (ltb (endB z) pointsSaid) ||
-      (eqb (endA z) (endB z) ||
       (not (leb (headingIn z) 1) ||
-      (eqb (carrierIn z) 0 && eqb (headingIn z) 1))))
+      (eqb (carrierIn z) 0 && eqb (headingIn z) 1)))
 
   -- row 7, of one zone: its carrier stands in an earlier zone too
   unfoldable pub repeated : ℕ → Bool
   repeated z = not (eqb (carrierIn z) 0) && anyOf (λ y. eqb (carrierIn y) (carrierIn z)) (numbersBelow z)
 
-  -- row 8, of one point: another than home, and under two zones. A zone counts once for each of its ends at the point.
+  -- row 8, of one point: another than home, and under two zones. A zone counts once for each of its ends at the point, so a turning loop twice.
   unfoldable pub underTwo : ℕ → Bool
   underTwo p = not (eqb p homeSaid) && ltb (howMany (eqb p) (trackSaid .ends)) 2
 

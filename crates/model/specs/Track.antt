@@ -36,6 +36,10 @@ start t w = getD (t .ends) w 0
 abbrev pub leave : Track → ℕ → ℕ
 leave t w = start t (rev w)
 
+-- document 02's turning loop: a zone whose two ends meet at one point
+abbrev pub TurningLoop : Track → ℕ → Type 0
+TurningLoop t z = start t (2 * z) ≡ leave t (2 * z)
+
 -- q is linked to p over zones that pass: what "hang together" and a free part of document 01 mean
 pub data Linked (t : Track) (passes : ℕ → Type 0) : ℕ → ℕ → Type 0 where
   here : {p : ℕ} → Linked t passes p p

@@ -1,4 +1,4 @@
-pub mod StarredHold
-pub mod TableHolds
+pub mod RowsHold
+pub mod TurnEmptied
 pub mod StepTested
 pub mod OutTested

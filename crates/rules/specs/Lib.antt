@@ -4,5 +4,7 @@ pub mod Tries
 pub mod Key
 pub mod Collapse
 pub mod Sheet
+pub mod Rows
 pub mod Starred
 pub mod Table
+pub mod TurningLoops

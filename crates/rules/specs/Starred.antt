@@ -1,15 +1,8 @@
 -- The starred boards and sheets of document 01 as rows of one table: the bytes, and what document 01 gives them.
 use Prim.Native.Nat.{ℕ}
 use mathlib.Core.List.{List, [], _∷_}
-use Rattle.rules.specs.Key.{KeyAnswer, turnedBack, keyOf}
-use Rattle.rules.specs.Collapse.{CollapseAnswer, collapseOf}
-use Rattle.rules.specs.Sheet.{markOf}
 use Rattle.rules.specs.Tries.{Move, into, home}
-
--- a board with its verdict, plan and list; or a board and a sheet with the marker's number
-pub data StarredRow : Type 0 where
-  board : (bytes : List ℕ) (verdict : ℕ) (plan list : List ℕ) → StarredRow
-  sheet : (bytes words : List ℕ) (number : ℕ) → StarredRow
+use Rattle.rules.specs.Rows.{Row, marked, board}
 
 -- board T with these carriers and headings in its two zones
 unfoldable pub boardT : ℕ → ℕ → ℕ → ℕ → List ℕ
@@ -22,7 +15,7 @@ turnWith c h = 0 ∷ 16 ∷ 1 ∷ 3 ∷ 0 ∷ 3 ∷ 0 ∷ 1 ∷ 5 ∷ 0 ∷ 1 �
 unfoldable pub farLoop : List ℕ
 farLoop = 0 ∷ 20 ∷ 1 ∷ 4 ∷ 0 ∷ 4 ∷ 0 ∷ 1 ∷ 5 ∷ 0 ∷ 1 ∷ 2 ∷ 6 ∷ 0 ∷ 2 ∷ 3 ∷ 0 ∷ 0 ∷ 2 ∷ 3 ∷ 0 ∷ 0 ∷ []
 
-unfoldable pub starred : List StarredRow
+unfoldable pub starred : List Row
 starred =
     board (boardT 0 0 0 0) 0 [] [] ∷
     board (boardT 7 0 0 0) 0 (7 ∷ 2 ∷ 0 ∷ 3 ∷ []) [] ∷
@@ -32,23 +25,8 @@ starred =
     board (turnWith 0 0) 0 (5 ∷ 4 ∷ 0 ∷ 2 ∷ 5 ∷ 1 ∷ []) [] ∷
     board (turnWith 6 1) 20 [] (5 ∷ 6 ∷ []) ∷
     board farLoop 20 [] (5 ∷ 6 ∷ []) ∷
-    sheet (boardT 7 0 0 0) (0 ∷ 7 ∷ 2 ∷ 0 ∷ 3 ∷ []) 0 ∷
-    sheet (boardT 7 0 0 0) (1 ∷ 7 ∷ []) 35 ∷ []
-
--- the answers on a row: of the key (with room lent for its plan and list) and of the collapse, or of the marker
-pub record Answers : Type 0 where
-  pub key : KeyAnswer
-  pub collapse : CollapseAnswer
-  pub mark : ℕ
-
-abbrev pub given : StarredRow → Answers
-given (board b v p l) = record { key = keyOf b 96 8; collapse = collapseOf b 8; mark = 0 }
-given (sheet b w n) = record { key = turnedBack 0; collapse = record { number = 0; list = [] }; mark = markOf b w }
-
--- what document 01 says
-abbrev pub said : StarredRow → Answers
-said (board b v p l) = record { key = record { verdict = v; plan = p; list = l }; collapse = record { number = 0; list = l }; mark = 0 }
-said (sheet b w n) = record { key = turnedBack 0; collapse = record { number = 0; list = [] }; mark = n }
+    marked (boardT 7 0 0 0) (0 ∷ 7 ∷ 2 ∷ 0 ∷ 3 ∷ []) 0 ∷
+    marked (boardT 7 0 0 0) (1 ∷ 7 ∷ []) 35 ∷ []
 
 -- single moves that empty the turn with 6, though Definition 3 says blocked
 unfoldable pub turnMoves : List Move

@@ -2,40 +2,13 @@
 -- With the starred boards these pin the numbers, the rooms and the layout of bytes that no theorem speaks of.
 use Prim.Native.Nat.{ℕ}
 use mathlib.Core.List.{List, [], _∷_}
-use Rattle.rules.specs.Key.{KeyAnswer, turnedBack, keyOf}
-use Rattle.rules.specs.Collapse.{CollapseAnswer, collapseOf}
-use Rattle.rules.specs.Sheet.{markOf}
+use Rattle.rules.specs.Key.{turnedBack}
 use Rattle.rules.specs.Starred.{boardT}
+use Rattle.rules.specs.Rows.{Row, drawn, marked, refused}
 
--- an operation's input, with the room lent
-pub data Input : Type 0 where
-  ofKey : (bytes : List ℕ) (planRoom listRoom : ℕ) → Input
-  ofCollapse : (bytes : List ℕ) (listRoom : ℕ) → Input
-  ofMark : (bytes words : List ℕ) → Input
-
--- an operation's answer
-pub data Answer : Type 0 where
-  keyGives : KeyAnswer → Answer
-  collapseGives : CollapseAnswer → Answer
-  markGives : ℕ → Answer
-
-abbrev pub answerOf : Input → Answer
-answerOf (ofKey b m n) = keyGives (keyOf b m n)
-answerOf (ofCollapse b n) = collapseGives (collapseOf b n)
-answerOf (ofMark b ws) = markGives (markOf b ws)
-
-pub record TableRow : Type 0 where
-  pub input : Input
-  pub answer : Answer
-
-refused : List ℕ → ℕ → TableRow
-refused b n = record { input = ofKey b 96 8; answer = keyGives (turnedBack n) }
-
-ordered : List ℕ → List ℕ → TableRow
-ordered b plan = record { input = ofKey b 6 1; answer = keyGives (record { verdict = 0; plan = plan; list = [] }) }
-
-sheet : List ℕ → List ℕ → ℕ → TableRow
-sheet b ws n = record { input = ofMark b ws; answer = markGives n }
+-- an ordered board with one carrier out at most and two zones, with just room enough for that
+ordered : List ℕ → List ℕ → Row
+ordered b plan = drawn b 6 1 (record { verdict = 0; plan = plan; list = [] }) (record { number = 0; list = [] })
 
 -- board T with other first bytes; board K
 unfoldable pub headed : ℕ → ℕ → ℕ → ℕ → ℕ → ℕ → List ℕ
@@ -49,8 +22,8 @@ unfoldable pub zonesFree : ℕ → List ℕ
 zonesFree ℕ.zero = []
 zonesFree (ℕ.suc n) = 0 ∷ 1 ∷ 0 ∷ 0 ∷ zonesFree n
 
-unfoldable pub table : List TableRow
-unfolding refused ordered sheet
+unfoldable pub table : List Row
+unfolding ordered
 table =
     -- 1 to 9
     refused (0 ∷ 12 ∷ 1 ∷ []) 1 ∷
@@ -65,7 +38,7 @@ table =
     refused (headed 0 12 1 65 0 2) 4 ∷
     refused (headed 0 12 1 2 2 2) 4 ∷
     refused (headed 0 12 1 2 0 3) 5 ∷
-    refused (0 ∷ 12 ∷ 1 ∷ 2 ∷ 0 ∷ 2 ∷ 0 ∷ 1 ∷ 0 ∷ 0 ∷ 0 ∷ 0 ∷ 0 ∷ 0 ∷ []) 6 ∷
+    refused (0 ∷ 12 ∷ 1 ∷ 2 ∷ 0 ∷ 2 ∷ 0 ∷ 1 ∷ 0 ∷ 0 ∷ 0 ∷ 2 ∷ 0 ∷ 0 ∷ []) 6 ∷
     refused (boardT 0 0 0 1) 6 ∷
     refused (boardT 7 2 0 0) 6 ∷
     refused (boardT 7 0 7 0) 7 ∷
@@ -74,36 +47,34 @@ table =
     -- L over 255 is read
     ordered (1 ∷ 4 ∷ 1 ∷ 2 ∷ 0 ∷ 64 ∷ zonesFree 64) [] ∷
     -- 10 and 11, and room that is just enough
-    record { input = ofKey boardK 5 1; answer = keyGives (turnedBack 10) } ∷
-    record { input = ofKey boardK 5 0; answer = keyGives (turnedBack 10) } ∷
-    record { input = ofKey boardK 6 0; answer = keyGives (turnedBack 11) } ∷
+    drawn boardK 5 1 (turnedBack 10) (record { number = 0; list = [] }) ∷
+    drawn boardK 5 0 (turnedBack 10) (record { number = 11; list = [] }) ∷
+    drawn boardK 6 0 (turnedBack 11) (record { number = 11; list = [] }) ∷
     ordered boardK (7 ∷ 2 ∷ 0 ∷ 3 ∷ []) ∷
-    record { input = ofCollapse boardK 0; answer = collapseGives (record { number = 11; list = [] }) } ∷
-    record { input = ofCollapse boardK 1; answer = collapseGives (record { number = 0; list = [] }) } ∷
     -- another home point, and a zone whose end A is the higher one
     ordered (0 ∷ 12 ∷ 1 ∷ 2 ∷ 1 ∷ 2 ∷ 0 ∷ 1 ∷ 7 ∷ 0 ∷ 0 ∷ 1 ∷ 0 ∷ 0 ∷ []) (7 ∷ 1 ∷ 0 ∷ []) ∷
     ordered (0 ∷ 12 ∷ 1 ∷ 2 ∷ 0 ∷ 2 ∷ 1 ∷ 0 ∷ 7 ∷ 0 ∷ 0 ∷ 1 ∷ 0 ∷ 0 ∷ []) (7 ∷ 1 ∷ 0 ∷ []) ∷
     -- 30 to 35
-    sheet boardK (2 ∷ []) 30 ∷
-    sheet boardK [] 30 ∷
-    sheet boardK (0 ∷ 7 ∷ []) 30 ∷
-    sheet boardK (0 ∷ 7 ∷ 0 ∷ []) 30 ∷
-    sheet boardK (0 ∷ 7 ∷ 3 ∷ 0 ∷ 3 ∷ []) 30 ∷
-    sheet boardK (0 ∷ 8 ∷ 1 ∷ 0 ∷ []) 31 ∷
-    sheet boardK (0 ∷ 0 ∷ 1 ∷ 3 ∷ []) 31 ∷
-    sheet boardK (0 ∷ 263 ∷ 2 ∷ 0 ∷ 3 ∷ []) 31 ∷
-    sheet boardK (0 ∷ 7 ∷ 2 ∷ 0 ∷ 3 ∷ 7 ∷ 2 ∷ 0 ∷ 3 ∷ []) 31 ∷
-    sheet boardK (0 ∷ 7 ∷ 2 ∷ 0 ∷ 2 ∷ []) 32 ∷
-    sheet boardK (0 ∷ 7 ∷ 1 ∷ 1 ∷ []) 32 ∷
-    sheet boardK (0 ∷ 7 ∷ 2 ∷ 0 ∷ 1 ∷ []) 32 ∷
-    sheet boardK (0 ∷ 7 ∷ 2 ∷ 0 ∷ 4 ∷ []) 32 ∷
-    sheet boardK (0 ∷ 7 ∷ 1 ∷ 0 ∷ []) 33 ∷
-    sheet boardK (0 ∷ []) 34 ∷
-    sheet boardK (1 ∷ 7 ∷ []) 35 ∷
-    sheet boardK (1 ∷ []) 35 ∷
+    marked boardK (2 ∷ []) 30 ∷
+    marked boardK [] 30 ∷
+    marked boardK (0 ∷ 7 ∷ []) 30 ∷
+    marked boardK (0 ∷ 7 ∷ 0 ∷ []) 30 ∷
+    marked boardK (0 ∷ 7 ∷ 3 ∷ 0 ∷ 3 ∷ []) 30 ∷
+    marked boardK (0 ∷ 8 ∷ 1 ∷ 0 ∷ []) 31 ∷
+    marked boardK (0 ∷ 0 ∷ 1 ∷ 3 ∷ []) 31 ∷
+    marked boardK (0 ∷ 263 ∷ 2 ∷ 0 ∷ 3 ∷ []) 31 ∷
+    marked boardK (0 ∷ 7 ∷ 2 ∷ 0 ∷ 3 ∷ 7 ∷ 2 ∷ 0 ∷ 3 ∷ []) 31 ∷
+    marked boardK (0 ∷ 7 ∷ 2 ∷ 0 ∷ 2 ∷ []) 32 ∷
+    marked boardK (0 ∷ 7 ∷ 1 ∷ 1 ∷ []) 32 ∷
+    marked boardK (0 ∷ 7 ∷ 2 ∷ 0 ∷ 1 ∷ []) 32 ∷
+    marked boardK (0 ∷ 7 ∷ 2 ∷ 0 ∷ 4 ∷ []) 32 ∷
+    marked boardK (0 ∷ 7 ∷ 1 ∷ 0 ∷ []) 33 ∷
+    marked boardK (0 ∷ []) 34 ∷
+    marked boardK (1 ∷ 7 ∷ []) 35 ∷
+    marked boardK (1 ∷ []) 35 ∷
     -- right sheets: through home and on, back through the own zone; another order than the key's; the true list
-    sheet boardK (0 ∷ 7 ∷ 4 ∷ 0 ∷ 3 ∷ 0 ∷ 3 ∷ []) 0 ∷
-    sheet (boardT 7 1 9 1) (0 ∷ 9 ∷ 1 ∷ 3 ∷ 7 ∷ 1 ∷ 1 ∷ []) 0 ∷
-    sheet (boardT 7 0 9 0) (1 ∷ 7 ∷ 9 ∷ []) 0 ∷
-    sheet (boardT 7 0 9 0) (1 ∷ 9 ∷ 7 ∷ []) 35 ∷
-    sheet (boardT 7 0 9 0) (1 ∷ 7 ∷ 265 ∷ []) 35 ∷ []
+    marked boardK (0 ∷ 7 ∷ 4 ∷ 0 ∷ 3 ∷ 0 ∷ 3 ∷ []) 0 ∷
+    marked (boardT 7 1 9 1) (0 ∷ 9 ∷ 1 ∷ 3 ∷ 7 ∷ 1 ∷ 1 ∷ []) 0 ∷
+    marked (boardT 7 0 9 0) (1 ∷ 7 ∷ 9 ∷ []) 0 ∷
+    marked (boardT 7 0 9 0) (1 ∷ 9 ∷ 7 ∷ []) 35 ∷
+    marked (boardT 7 0 9 0) (1 ∷ 7 ∷ 265 ∷ []) 35 ∷ []

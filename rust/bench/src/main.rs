@@ -3,7 +3,7 @@
 
 mod port;
 
-use compare::{boards, random::Random};
+use compare::{boards::{self, Loops}, random::Random};
 use second::{Board, Zone};
 use std::hint::black_box;
 use std::time::Instant;
@@ -106,8 +106,8 @@ fn row(name: &str, what: &str, ours: &[f64], others: &[(&str, &[f64])]) {
 fn main() {
     let mut random = Random::new(7);
     println!("ratios of the proved library's time to each other one's");
-    group("small", (0..2000).map(|_| boards::accepted(&mut random, 4, 6, 3)).collect(), 100);
-    group("large", (0..60).map(|_| boards::accepted(&mut random, 40, 90, 4)).filter(|b| b.zones.len() <= 96).collect(), 100);
-    group("full", (0..60).map(|_| boards::accepted(&mut random, 40, 90, 1)).filter(|b| b.zones.len() <= 96).collect(), 100);
+    group("small", (0..2000).map(|_| boards::accepted(&mut random, 4, 6, 3, Loops::None)).collect(), 100);
+    group("large", (0..60).map(|_| boards::accepted(&mut random, 40, 90, 4, Loops::None)).filter(|b| b.zones.len() <= 96).collect(), 100);
+    group("full", (0..60).map(|_| boards::accepted(&mut random, 40, 90, 1, Loops::None)).filter(|b| b.zones.len() <= 96).collect(), 100);
     group("worst", (0..20).map(|_| worst()).collect(), 40);
 }

@@ -3,22 +3,44 @@
 use crate::random::Random;
 use second::{Board, Zone};
 
-/// An accepted board with so many points and at most so many zones; each zone is held once in `sparse` times (1: every zone).
-pub fn accepted(random: &mut Random, points: usize, zones: usize, sparse: usize) -> Board {
+/// How often a zone that isn't needed to join the points is a turning loop.
+#[derive(Clone, Copy)]
+pub enum Loops {
+    None,
+    OnceIn(usize),
+}
+
+impl Loops {
+    fn next(self, random: &mut Random) -> bool {
+        match self {
+            Loops::None => false,
+            Loops::OnceIn(n) => random.once_in(n),
+        }
+    }
+}
+
+/// An accepted board with so many points and about so many zones; each zone is held once in `sparse` times (1: every zone).
+pub fn accepted(random: &mut Random, points: usize, zones: usize, sparse: usize, loops: Loops) -> Board {
     let home = random.below(points);
     let mut ends: Vec<(usize, usize)> = Vec::new();
     // A random tree, so that all hangs together, then zones for points that have but one, then more at random, parallel ones among them.
+    // A point of the tree has one zone at least, and a turning loop is always enough.
     for p in 1..points {
         ends.push((p, random.below(p)));
     }
     for p in (0..points).filter(|&p| p != home) {
-        let degree = ends.iter().filter(|&&(a, b)| a == p || b == p).count();
-        for _ in degree..2 {
-            let other = (p + 1 + random.below(points - 1)) % points;
+        let has_two = ends.iter().filter(|&&(a, b)| a == p || b == p).count() > 1;
+        if !has_two {
+            let other = if loops.next(random) { p } else { (p + 1 + random.below(points - 1)) % points };
             ends.push((p, other));
         }
     }
     while ends.len() < zones {
+        if loops.next(random) {
+            let p = if random.once_in(3) { home } else { random.below(points) };
+            ends.push((p, p));
+            continue;
+        }
         let a = random.below(points);
         let near = if random.once_in(3) { ends[random.below(ends.len())] } else { (a, (a + 1 + random.below(points - 1)) % points) };
         ends.push(near);
@@ -51,7 +73,7 @@ pub fn shuffle<T>(random: &mut Random, items: &mut [T]) {
 pub fn damaged(random: &mut Random, board: &Board) -> Vec<u8> {
     let mut bytes = board.bytes();
     for _ in 0..1 + random.below(3) {
-        match random.below(5) {
+        match random.below(6) {
             0 => {
                 bytes.truncate(random.below(bytes.len() + 1));
             }
@@ -63,6 +85,11 @@ pub fn damaged(random: &mut Random, board: &Board) -> Vec<u8> {
                 // A zone more or fewer, with the lengths put right: later rows are met.
                 bytes.truncate(6 + (bytes.len() - 6) / 4 * 4 - 4 * random.below(2));
                 set_lengths(&mut bytes);
+            }
+            3 if bytes.len() >= 14 => {
+                // A zone's ends made equal: a point may lose its second zone, or hang together with the others no more.
+                let end = 6 + 4 * random.below((bytes.len() - 6) / 4);
+                bytes[end + 1] = bytes[end];
             }
             _ if !bytes.is_empty() => {
                 let end = if random.once_in(2) { bytes.len().min(6) } else { bytes.len() };

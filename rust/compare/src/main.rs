@@ -1,8 +1,12 @@
 //! Compares the proved library with the second implementation on many boards and sheets, whole: numbers, lengths, every word of plan and
 //! list, and canaries past what may be written. Ends with status 1 at the first difference.
 
+mod loops;
+
+use compare::boards::{self, Loops};
 use compare::random::Random;
-use compare::{boards, sheets};
+use compare::sheets;
+use loops::LoopTally;
 use second::Board;
 
 const SEED: u64 = 20_261_115;
@@ -17,6 +21,7 @@ struct Tally {
     passed: usize,
     exhaustive: usize,
     full: usize,
+    loops: LoopTally,
     verdicts: std::collections::BTreeMap<u32, usize>,
     marks: std::collections::BTreeMap<u32, usize>,
 }
@@ -74,6 +79,7 @@ fn compare_board(tally: &mut Tally, random: &mut Random, board: &Board) {
     if second::read(&bytes).as_ref() != Ok(board) {
         differ("the generator made a board that is not accepted", &bytes, String::new());
     }
+    tally.loops.add(board);
     compare_key(tally, &bytes, room + random.below(3), out + random.below(3));
     if random.once_in(8) {
         compare_key(tally, &bytes, room.saturating_sub(1), out.saturating_sub(random.below(2)));
@@ -87,6 +93,13 @@ fn compare_board(tally: &mut Tally, random: &mut Random, board: &Board) {
         compare_mark(tally, &bytes, &sheets::spoilt(random, sheet));
     }
     compare_mark(tally, &bytes, &sheets::noise(random));
+    if let Some((zone, sheet)) = sheets::run_again(random, &tried) {
+        compare_mark(tally, &bytes, &sheet);
+        if nizkabel::mark(&bytes, &sheet) != 32 {
+            differ("a zone entered again straight after itself", &bytes, format!("sheet {sheet:?}"));
+        }
+        tally.loops.run_again += board.zones[zone].is_loop() as usize;
+    }
 }
 
 /// Small boards against every order, every route and, where every zone is held, every position of single moves.
@@ -99,11 +112,17 @@ fn compare_exhaustive(tally: &mut Tally, board: &Board) {
     }
     if board.zones.iter().all(|z| z.carrier != 0) {
         tally.full += 1;
+        tally.loops.full += board.zones.iter().any(|z| z.is_loop()) as usize;
         if !second::all_positions_keep(board, &expected.list) {
             differ("a named carrier moved on a full board", &bytes, String::new());
         }
     }
     tally.exhaustive += 1;
+}
+
+/// No turning loop, some, or many.
+fn any_loops(random: &mut Random) -> Loops {
+    [Loops::None, Loops::OnceIn(4), Loops::OnceIn(1)][random.below(3)]
 }
 
 fn main() {
@@ -114,7 +133,8 @@ fn main() {
         let points = 2 + random.below(4);
         let zones = 2 + random.below(6);
         let sparse = 1 + random.below(4);
-        let board = boards::accepted(&mut random, points, zones, sparse);
+        let loops = any_loops(&mut random);
+        let board = boards::accepted(&mut random, points, zones, sparse, loops);
         compare_board(&mut tally, &mut random, &board);
         if round % 16 == 0 && board.zones.len() <= 6 {
             compare_exhaustive(&mut tally, &board);
@@ -124,7 +144,8 @@ fn main() {
         let points = 2 + random.below(40);
         let sparse = 1 + random.below(6);
         let zones = (2 * points).min(96).min(2 + random.below(95));
-        let board = boards::accepted(&mut random, points, zones, sparse);
+        let loops = any_loops(&mut random);
+        let board = boards::accepted(&mut random, points, zones, sparse, loops);
         if board.zones.len() <= 96 {
             compare_board(&mut tally, &mut random, &board);
         }
@@ -133,7 +154,8 @@ fn main() {
         let points = 2 + random.below(5);
         let zones = 2 + random.below(6);
         let sparse = 1 + random.below(3);
-        let board = boards::accepted(&mut random, points, zones, sparse);
+        let loops = any_loops(&mut random);
+        let board = boards::accepted(&mut random, points, zones, sparse, loops);
         let bytes = boards::damaged(&mut random, &board);
         tally.boards += 1;
         tally.accepted += second::read(&bytes).is_ok() as usize;
@@ -151,6 +173,11 @@ fn main() {
         "{} boards ({} accepted), {} sheets ({} passed), {} boards by exhaustion, {} of them full: no difference",
         tally.boards, tally.accepted, tally.sheets, tally.passed, tally.exhaustive, tally.full
     );
+    println!("turning loops: {:?}", tally.loops);
     println!("verdicts {:?}", tally.verdicts);
     println!("marks {:?}", tally.marks);
+    if !tally.loops.fair() {
+        println!("difference: too few boards or sheets with turning loops of some kind");
+        std::process::exit(1);
+    }
 }

@@ -65,6 +65,23 @@ pub fn spoilt(random: &mut Random, sheet: &[u16]) -> Vec<u16> {
     words
 }
 
+/// A plan's sheet with a zone entered again straight after itself, the same way or the other: a word of one of its routes is followed by a
+/// word of its zone. With that zone; none where the plan has no entry.
+pub fn run_again(random: &mut Random, sheet: &[u16]) -> Option<(usize, Vec<u16>)> {
+    let mut entries = Vec::new();
+    let mut at = 1;
+    while at < sheet.len() {
+        entries.push(at);
+        at += 2 + sheet[at + 1] as usize;
+    }
+    let entry = *entries.get(random.below(entries.len().max(1)))?;
+    let mut words = sheet.to_vec();
+    let place = entry + 2 + random.below(words[entry + 1] as usize);
+    words.insert(place + 1, words[place] ^ random.below(2) as u16);
+    words[entry + 1] += 1;
+    Some((words[place] as usize / 2, words))
+}
+
 pub fn noise(random: &mut Random) -> Vec<u16> {
     let length = random.below(12);
     (0..length).map(|_| if random.once_in(3) { random.next() as u16 } else { random.below(10) as u16 }).collect()

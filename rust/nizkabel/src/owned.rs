@@ -63,7 +63,7 @@ impl fmt::Display for Refused {
             3 => "version isn't 1",
             4 => "P, home or Z out of range",
             5 => "L isn't 4 + 4 × Z",
-            6 => "an end not below P, equal ends, heading over 1, or a free zone with heading 1",
+            6 => "an end not below P, heading over 1, or a free zone with heading 1",
             7 => "a carrier in two zones",
             8 => "a point other than home with under two zones",
             _ => "points that don't hang together",

@@ -8,6 +8,13 @@ pub struct Zone {
     pub heading: u32,
 }
 
+impl Zone {
+    /// Whether it is a turning loop: its two ends meet at one point.
+    pub fn is_loop(&self) -> bool {
+        self.a == self.b
+    }
+}
+
 #[derive(Clone, Debug, PartialEq, Eq)]
 pub struct Board {
     pub points: usize,
@@ -96,7 +103,7 @@ pub fn read(bytes: &[u8]) -> Result<Board, u32> {
         .chunks(4)
         .map(|z| Zone { a: z[0] as usize, b: z[1] as usize, carrier: z[2] as u32, heading: z[3] as u32 })
         .collect();
-    let bad = |z: &Zone| z.a >= points || z.b >= points || z.a == z.b || z.heading > 1 || (z.carrier == 0 && z.heading == 1);
+    let bad = |z: &Zone| z.a >= points || z.b >= points || z.heading > 1 || (z.carrier == 0 && z.heading == 1);
     if zones.iter().any(bad) {
         return Err(6);
     }
@@ -105,7 +112,8 @@ pub fn read(bytes: &[u8]) -> Result<Board, u32> {
     if held.windows(2).any(|pair| pair[0] == pair[1]) {
         return Err(7);
     }
-    let degree = |p: usize| zones.iter().filter(|z| z.a == p || z.b == p).count();
+    // A turning loop counts twice toward the two zones of its point.
+    let degree = |p: usize| zones.iter().filter(|z| z.a == p || z.b == p).map(|z| if z.is_loop() { 2 } else { 1 }).sum::<usize>();
     if (0..points).any(|p| p != home && degree(p) < 2) {
         return Err(8);
     }

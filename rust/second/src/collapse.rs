@@ -1,7 +1,7 @@
-//! What the collapse leaves, by reachability: a free part holds a loop where deleting dead ends leaves a zone, and home's set is the
-//! closure of the home point under free zones, joined zones and held zones that lead in.
+//! What the collapse leaves, by reachability: a free part holds a loop where deleting dead ends leaves a zone or where it has a turning
+//! loop, and home's set is the closure of the home point under free zones, joined zones and held zones that lead in.
 
-use crate::board::{read, Board};
+use crate::board::{read, Board, Zone};
 
 /// The points linked to a point over free zones.
 fn part(board: &Board, from: usize) -> Vec<bool> {
@@ -22,13 +22,17 @@ fn part(board: &Board, from: usize) -> Vec<bool> {
     inside
 }
 
-/// Whether the free part of a point holds a loop: zones with an end that no other free zone touches are deleted until none is left to delete.
+/// Whether the free part of a point holds a loop: it has a turning loop, or zones with an end that no other free zone touches are deleted
+/// until none is left to delete, and some zone stays.
 fn holds_loop(board: &Board, from: usize) -> bool {
     let inside = part(board, from);
-    let mut zones: Vec<(usize, usize)> = board.zones.iter().filter(|z| z.carrier == 0 && inside[z.a]).map(|z| (z.a, z.b)).collect();
+    let mut zones: Vec<&Zone> = board.zones.iter().filter(|z| z.carrier == 0 && inside[z.a]).collect();
+    if zones.iter().any(|z| z.is_loop()) {
+        return true;
+    }
     loop {
-        let degree = |p: usize| zones.iter().map(|&(a, b)| (a == p) as usize + (b == p) as usize).sum::<usize>();
-        let kept: Vec<(usize, usize)> = zones.iter().copied().filter(|&(a, b)| degree(a) > 1 && degree(b) > 1).collect();
+        let touching = |p: usize| zones.iter().filter(|z| z.a == p || z.b == p).count();
+        let kept: Vec<&Zone> = zones.iter().copied().filter(|z| touching(z.a) > 1 && touching(z.b) > 1).collect();
         if kept.len() == zones.len() {
             return !kept.is_empty();
         }

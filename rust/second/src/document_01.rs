@@ -36,7 +36,7 @@ pub fn starred() -> [Row; 8] {
     ]
 }
 
-/// The input of each of the rows 1 to 9, in their order.
+/// The input of each of the rows 1 to 9, in their order; for row 6 one whose ends aren't equal, which request c of document 02 allows.
 pub fn refused() -> [Vec<u8>; 9] {
     let with = |at: usize, bytes: &[u8]| {
         let mut board = t([0, 0], [0, 0]);
@@ -49,7 +49,7 @@ pub fn refused() -> [Vec<u8>; 9] {
         with(2, &[2]),
         with(3, &[1]),
         with(5, &[3]),
-        with(10, &[0, 0, 0, 0]),
+        with(10, &[0, 2, 0, 0]),
         t([7, 0], [7, 0]),
         vec![0, 16, 1, 3, 0, 3, 0, 1, 0, 0, 0, 1, 0, 0, 1, 2, 0, 0],
         vec![0, 20, 1, 4, 0, 4, 0, 1, 0, 0, 0, 1, 0, 0, 2, 3, 0, 0, 2, 3, 0, 0],

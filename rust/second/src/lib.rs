@@ -1,9 +1,11 @@
-//! A second implementation of document 01, to compare the product with. It shares no algorithm with it: orders by permutation and
-//! routes by enumeration on small boards, distances by a backward fixpoint on large ones, cycles by deleting dead ends.
+//! A second implementation of document 01, with the requests of document 02 that have landed, to compare the product with. It shares no
+//! algorithm with it: orders by permutation and routes by enumeration on small boards, distances by a backward fixpoint on large ones,
+//! cycles by deleting dead ends.
 
 mod board;
 mod collapse;
 pub mod document_01;
+pub mod document_02;
 mod key;
 mod small;
 mod sheet;

@@ -1,6 +1,6 @@
 -- `bad` is row 6's test of one zone.
--- Each return is one of the ways through its five comparisons.
-use Rattle.board.proofs.Rows.{far-end-A, far-end-B, equal-ends, wrong-heading, held-zone, free-zone}
+-- Each return is one of the ways through its four comparisons.
+use Rattle.board.proofs.Rows.{far-end-A, far-end-B, wrong-heading, held-zone, free-zone}
 use borrow.Author.Needs.{needs}
 use Rattle.board.proofs.zones.bad.Statement.{statement}
 use Rattle.board.proofs.zones.bad.Tie as tie
@@ -51,16 +51,13 @@ returns-2 : tie.Need-returns-2
 returns-2 c = search far-end-B
 
 returns-3 : tie.Need-returns-3
-returns-3 c = search equal-ends
+returns-3 c = search wrong-heading
 
 returns-4 : tie.Need-returns-4
-returns-4 c = search wrong-heading
+returns-4 c = search held-zone
 
 returns-5 : tie.Need-returns-5
-returns-5 c = search held-zone
-
-returns-6 : tie.Need-returns-6
-returns-6 c = search free-zone
+returns-5 c = search free-zone
 
 pub bad-spec : {M : Type 1} → statement M
 bad-spec =
@@ -83,5 +80,4 @@ bad-spec =
     returns-2
     returns-3
     returns-4
-    returns-5
-    returns-6)
+    returns-5)

@@ -1,15 +1,16 @@
-//! The boards, sheets and refusals of document 01 by the wrapper's two layers.
+//! The boards, sheets and refusals of documents 01 and 02 by the wrapper's two layers.
 
 use nizkabel::owned::{self, Entry};
 use second::document_01::{k, refused, starred, SHEETS_FOR_K};
+use second::document_02::{loops_refused, to_loop, turning_loops, SHEETS_FOR_LOOP};
 
 fn plan(entries: &[Entry]) -> Vec<u16> {
     entries.iter().flat_map(|e| [e.carrier, e.words.len() as u16].into_iter().chain(e.words.iter().copied())).collect()
 }
 
 #[test]
-fn starred_boards() {
-    for (board, verdict, words, blocked) in starred() {
+fn boards() {
+    for (board, verdict, words, blocked) in starred().into_iter().chain(turning_loops()) {
         let key = owned::key(&board).unwrap();
         let list: Vec<u16> = key.blocked.iter().map(|&c| c.into()).collect();
         assert_eq!((key.verdict, &plan(&key.entries)[..], &list[..]), (verdict, words, blocked));
@@ -30,6 +31,9 @@ fn refusals() {
         let error: Box<dyn std::error::Error> = refused.into();
         told.push(error.to_string());
     }
+    for (board, number) in loops_refused() {
+        assert_eq!(owned::key(&board).unwrap_err().number(), number);
+    }
     assert!(told.iter().enumerate().all(|(i, text)| text.starts_with(&format!("refused {}: ", i + 1))));
     told.sort();
     told.dedup_by_key(|text| text[11..].to_string());
@@ -40,6 +44,9 @@ fn refusals() {
 fn marks() {
     for (sheet, number) in SHEETS_FOR_K {
         assert_eq!(owned::mark(&k(), sheet), Ok(number));
+    }
+    for (sheet, number) in SHEETS_FOR_LOOP {
+        assert_eq!(owned::mark(&to_loop([1, 1, 0, 0]), sheet), Ok(number));
     }
 }
 

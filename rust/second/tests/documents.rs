@@ -1,11 +1,12 @@
-//! The boards and sheets of document 01 by the second implementation.
+//! The boards and sheets of documents 01 and 02 by the second implementation.
 
 use second::document_01::{k, refused, starred, SHEETS_FOR_K};
+use second::document_02::{loops_refused, to_loop, turning_loops, SHEETS_FOR_LOOP};
 use second::{collapse, key, mark, read};
 
 #[test]
-fn starred_boards() {
-    for (board, verdict, plan, blocked) in starred() {
+fn boards() {
+    for (board, verdict, plan, blocked) in starred().into_iter().chain(turning_loops()) {
         let drawn = key(&board, 96, 8);
         let list: Vec<u32> = blocked.iter().map(|&c| c.into()).collect();
         assert_eq!((drawn.verdict, &drawn.plan[..], &drawn.list[..]), (verdict, plan, &list[..]));
@@ -18,9 +19,15 @@ fn refusals_and_marks() {
     for (row, board) in (1..).zip(refused()) {
         assert_eq!(read(&board).err(), Some(row));
     }
+    for (board, number) in loops_refused() {
+        assert_eq!(read(&board).err(), Some(number));
+    }
     assert_eq!(key(&k(), 5, 1).verdict, 10);
     assert_eq!(key(&k(), 6, 0).verdict, 11);
     for (sheet, number) in SHEETS_FOR_K {
         assert_eq!(mark(&k(), sheet), number);
+    }
+    for (sheet, number) in SHEETS_FOR_LOOP {
+        assert_eq!(mark(&to_loop([1, 1, 0, 0]), sheet), number);
     }
 }

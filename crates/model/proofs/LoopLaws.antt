@@ -1,0 +1,52 @@
+-- What document 02 says of a turning loop on a track: it leaves at its point with either heading, and counts twice toward the two zones of
+-- its point. The first by the two words of a zone; the second since its two ends stand beside each other in the list of ends.
+use Prim.Native.Nat.{ℕ, zero, suc, _+_, _*_, _≤_, _<_}
+use mathlib.Core.Path.{_≡_, refl, sym, _∙_, ap}
+use mathlib.Core.Logic.{_⊎_, inl, inr}
+use mathlib.Core.List.{List, [], _∷_}
+use mathlib.Core.Bool.{Bool, true, false}
+use native.Mathlib.Omega.{arith}
+use lib.ListN.{length, getD}
+use lib.Dec.{eqb}
+use borrow.Author.Tests.{eq-eqb}
+use Rattle.model.specs.Lists.{consIf, keep, howMany}
+use Rattle.model.specs.Track.{Track, TurningLoop, zoneOf, rev, start, leave}
+use Rattle.model.proofs.ListLaws.{how-many-pass}
+use Rattle.model.proofs.WordLaws.{same-zone, zone-first, leave-rev}
+
+module _ (t : Track) where
+  -- each of its words leaves where it starts
+  pub loop-leaves : (w : ℕ) → TurningLoop t (zoneOf w) → leave t w ≡ start t w
+  loop-leaves w l = go (same-zone w (2 * zoneOf w) (sym (zone-first (zoneOf w))))
+    where
+      go : (w ≡ 2 * zoneOf w) ⊎ (w ≡ rev (2 * zoneOf w)) → leave t w ≡ start t w
+      go (inl e) = ap (leave t) e ∙ sym l ∙ sym (ap (start t) e)
+      go (inr e) = ap (leave t) e ∙ leave-rev t (2 * zoneOf w) ∙ l ∙ sym (ap (start t) e)
+
+-- one element more counts no fewer
+more-counts : (f : ℕ → Bool) (a : ℕ) (l : List ℕ) → howMany f l ≤ howMany f (a ∷ l)
+more-counts f a l = go (f a)
+  where
+    go : (b : Bool) → howMany f l ≤ length (consIf b a (keep f l))
+    go true = omega arith
+    go false = omega arith
+
+-- a number that stands in two places side by side is there twice
+stands-twice : (q : ℕ) (l : List ℕ) (i : ℕ) → suc i < length l → getD l i 0 ≡ q → getD l (suc i) 0 ≡ q → 2 ≤ howMany (eqb q) l
+stands-twice q [] i h a b = absurd (omega arith)
+stands-twice q (x ∷ []) i h a b = absurd (omega arith)
+stands-twice q (x ∷ y ∷ l) zero h a b =
+    let m : howMany (eqb q) (x ∷ y ∷ l) ≡ suc (howMany (eqb q) (y ∷ l)) = how-many-pass (eqb q) x (y ∷ l) (eq-eqb q x (sym a)) in
+    let n : howMany (eqb q) (y ∷ l) ≡ suc (howMany (eqb q) l) = how-many-pass (eqb q) y l (eq-eqb q y (sym b)) in
+    omega arith
+stands-twice q (x ∷ y ∷ l) (suc i) h a b =
+    let m : 2 ≤ howMany (eqb q) (y ∷ l) = stands-twice q (y ∷ l) i (omega arith) a b in
+    let n : howMany (eqb q) (y ∷ l) ≤ howMany (eqb q) (x ∷ y ∷ l) = more-counts (eqb q) x (y ∷ l) in
+    omega arith
+
+-- the count of row 8 at its point
+pub loop-twice : (t : Track) → length (t .ends) ≡ 2 * t .zones → (z : ℕ) → z < t .zones → TurningLoop t z → 2 ≤ howMany (eqb (start t (2 * z))) (t .ends)
+loop-twice t n z h l = stands-twice (start t (2 * z)) (t .ends) (2 * z) (omega arith) refl (ap (start t) beside ∙ sym l)
+  where
+    beside : suc (2 * z) ≡ rev (2 * z)
+    beside = omega arith

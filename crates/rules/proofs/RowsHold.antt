@@ -1,0 +1,33 @@
+-- Every row of the three tables holds: the starred boards, the table of verdicts, the boards with turning loops.
+-- The definitions compute: one `refl` for a whole table. So many rows stand in each, lest an empty table hold.
+use mathlib.Core.List.{flatten}
+use mathlib.Core.Path.{_≡_, refl}
+use lib.ListN.{length}
+use Rattle.rules.specs.Rows.{Hold, given}
+use Rattle.rules.specs.Starred.{boardT, turnWith, farLoop, starred}
+use Rattle.rules.specs.Table.{table, headed, boardK, zonesFree}
+use Rattle.rules.specs.TurningLoops.{turningLoops}
+
+pub starred-rows : length starred ≡ 10
+unfolding starred
+starred-rows = refl
+
+pub starred-hold : Hold starred
+unfolding starred boardT turnWith farLoop given
+starred-hold = refl
+
+pub table-rows : length table ≡ 47
+unfolding table
+table-rows = refl
+
+pub table-holds : Hold table
+unfolding table headed boardK zonesFree boardT given
+table-holds = refl
+
+pub loops-rows : length turningLoops ≡ 25
+unfolding turningLoops
+loops-rows = refl
+
+pub loops-hold : Hold turningLoops
+unfolding turningLoops flatten given
+loops-hold = refl

@@ -37,7 +37,7 @@ enum nizkabel_number {
     NIZKABEL_WRONG_COUNT = 5,     /* L isn't 4 + 4 x Z */
     NIZKABEL_BAD_ZONE = 6,        /* an end not below P, heading over 1, or a free zone with heading 1 */
     NIZKABEL_CARRIER_TWICE = 7,   /* a carrier in two zones */
-    NIZKABEL_LOOSE_POINT = 8,     /* a point other than home with under two zones; a turning loop counts twice */
+    NIZKABEL_LOOSE_POINT = 8,     /* a point other than home with under two zones, a turning loop counted twice */
     NIZKABEL_APART = 9,           /* points that don't hang together */
     NIZKABEL_SHORT_PLAN = 10,     /* plan lent for under C x (2 + 2 x Z) words */
     NIZKABEL_SHORT_LIST = 11,     /* list lent for under C numbers */

@@ -99,7 +99,7 @@ home-small {b} {h} I H =
     let i : homeSaid b < pointsSaid b = I .home-in in
     omega arith
 
--- the points of row 8: all but home and those with two zones or more
+-- the points of row 8: all but home and those where two words or more start
 module _ {b : List ℕ} {p h twice : ℕ} (I : Inside b) (D : Doubled b twice) (fits : twice < 2 ^ 64) (P : ByteAt b 3 p) (H : ByteAt b 4 h) where
   abbrev underTwoSet : ℕ
   underTwoSet = setMinus (2 ^ p - 1) (bitOr twice (2 ^ h))

@@ -1,4 +1,4 @@
--- What the reader's inner functions say: of one byte, of two rows at a time, and of the ways and the points with two zones.
+-- What the reader's inner functions say: of one byte, of two rows at a time, and of the ways and the points where two words start.
 -- Nothing outside this crate speaks of these.
 use Prim.Native.Nat.{ℕ, _+_, _*_, _≤_, _<_}
 use mathlib.Core.List.{List, map}

@@ -1,4 +1,5 @@
 pub mod RowsHold
 pub mod TurnEmptied
 pub mod StepTested
+pub mod MoveElsewhere
 pub mod OutTested

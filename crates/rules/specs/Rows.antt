@@ -12,8 +12,8 @@ use Rattle.rules.specs.Sheet.{markOf, markFor, markClaim, sameList, mark
 
 -- a board, the room lent for plan and list, and what the key and the collapse give; or a board and a sheet with its number
 pub data Row : Type 0 where
-  drawn : (bytes : List ℕ) (planRoom listRoom : ℕ) (key : KeyAnswer) (collapse : CollapseAnswer) → Row
-  marked : (bytes words : List ℕ) (number : ℕ) → Row
+  onBoard : (bytes : List ℕ) (planRoom listRoom : ℕ) (key : KeyAnswer) (collapse : CollapseAnswer) → Row
+  onSheet : (bytes words : List ℕ) (number : ℕ) → Row
 
 pub data Answer : Type 0 where
   ofBoard : KeyAnswer → CollapseAnswer → Answer
@@ -22,21 +22,21 @@ pub data Answer : Type 0 where
 -- what the definitions give, computed
 unfoldable pub given : Row → Answer
 unfolding keyOf keyIn keyFor named run runFor firstToGo leastRoute zoneFor nexts planWords leastFrom wordsTo goalIn collapseOf collapseIn left mergeAll mergeZone joined turns loopIn freeParts parts joinZones joinPoints refusal tooShort wrongLength wrongVersion outOfRange wrongCount badZone repeated underTwo apart trackSaid positionSaid markOf markFor markClaim sameList markEntries markEntry markEnd endsHome byRules follow stillOut
-given (drawn b m n k c) = ofBoard (keyOf b m n) (collapseOf b n)
-given (marked b ws n) = ofSheet (markOf b ws)
+given (onBoard b m n k c) = ofBoard (keyOf b m n) (collapseOf b n)
+given (onSheet b ws n) = ofSheet (markOf b ws)
 
 -- what the row says
 abbrev pub said : Row → Answer
-said (drawn b m n k c) = ofBoard k c
-said (marked b ws n) = ofSheet n
+said (onBoard b m n k c) = ofBoard k c
+said (onSheet b ws n) = ofSheet n
 
 abbrev pub Hold : List Row → Type 0
 Hold rows = map given rows ≡ map said rows
 
--- a board with room for plan and list: its verdict, plan and list; the collapse leaves the same list
-abbrev pub board : List ℕ → ℕ → List ℕ → List ℕ → Row
-board b verdict plan list = drawn b 96 8 (record { verdict = verdict; plan = plan; list = list }) (record { number = 0; list = list })
+-- an accepted board with room for plan and list: its verdict, plan and list; the collapse leaves the same list
+abbrev pub acceptedBoard : List ℕ → ℕ → List ℕ → List ℕ → Row
+acceptedBoard b verdict plan list = onBoard b 96 8 (record { verdict = verdict; plan = plan; list = list }) (record { number = 0; list = list })
 
--- a board that the key and the collapse turn back
-abbrev pub refused : List ℕ → ℕ → Row
-refused b n = drawn b 96 8 (turnedBack n) (record { number = n; list = [] })
+-- a board that the key and the collapse turn back with one of 1 to 9
+abbrev pub refusedBoard : List ℕ → ℕ → Row
+refusedBoard b n = onBoard b 96 8 (turnedBack n) (record { number = n; list = [] })

@@ -2,7 +2,7 @@
 use Prim.Native.Nat.{ℕ}
 use mathlib.Core.List.{List, [], _∷_}
 use Rattle.rules.specs.Tries.{Move, into, home}
-use Rattle.rules.specs.Rows.{Row, marked, board}
+use Rattle.rules.specs.Rows.{Row, onSheet, acceptedBoard}
 
 -- board T with these carriers and headings in its two zones
 unfoldable pub boardT : ℕ → ℕ → ℕ → ℕ → List ℕ
@@ -17,16 +17,16 @@ farLoop = 0 ∷ 20 ∷ 1 ∷ 4 ∷ 0 ∷ 4 ∷ 0 ∷ 1 ∷ 5 ∷ 0 ∷ 1 ∷ 2 �
 
 unfoldable pub starred : List Row
 starred =
-    board (boardT 0 0 0 0) 0 [] [] ∷
-    board (boardT 7 0 0 0) 0 (7 ∷ 2 ∷ 0 ∷ 3 ∷ []) [] ∷
-    board (boardT 7 1 9 1) 0 (7 ∷ 1 ∷ 1 ∷ 9 ∷ 1 ∷ 3 ∷ []) [] ∷
-    board (boardT 7 0 9 1) 0 (9 ∷ 1 ∷ 3 ∷ 7 ∷ 2 ∷ 0 ∷ 3 ∷ []) [] ∷
-    board (boardT 7 0 9 0) 20 [] (7 ∷ 9 ∷ []) ∷
-    board (turnWith 0 0) 0 (5 ∷ 4 ∷ 0 ∷ 2 ∷ 5 ∷ 1 ∷ []) [] ∷
-    board (turnWith 6 1) 20 [] (5 ∷ 6 ∷ []) ∷
-    board farLoop 20 [] (5 ∷ 6 ∷ []) ∷
-    marked (boardT 7 0 0 0) (0 ∷ 7 ∷ 2 ∷ 0 ∷ 3 ∷ []) 0 ∷
-    marked (boardT 7 0 0 0) (1 ∷ 7 ∷ []) 35 ∷ []
+    acceptedBoard (boardT 0 0 0 0) 0 [] [] ∷
+    acceptedBoard (boardT 7 0 0 0) 0 (7 ∷ 2 ∷ 0 ∷ 3 ∷ []) [] ∷
+    acceptedBoard (boardT 7 1 9 1) 0 (7 ∷ 1 ∷ 1 ∷ 9 ∷ 1 ∷ 3 ∷ []) [] ∷
+    acceptedBoard (boardT 7 0 9 1) 0 (9 ∷ 1 ∷ 3 ∷ 7 ∷ 2 ∷ 0 ∷ 3 ∷ []) [] ∷
+    acceptedBoard (boardT 7 0 9 0) 20 [] (7 ∷ 9 ∷ []) ∷
+    acceptedBoard (turnWith 0 0) 0 (5 ∷ 4 ∷ 0 ∷ 2 ∷ 5 ∷ 1 ∷ []) [] ∷
+    acceptedBoard (turnWith 6 1) 20 [] (5 ∷ 6 ∷ []) ∷
+    acceptedBoard farLoop 20 [] (5 ∷ 6 ∷ []) ∷
+    onSheet (boardT 7 0 0 0) (0 ∷ 7 ∷ 2 ∷ 0 ∷ 3 ∷ []) 0 ∷
+    onSheet (boardT 7 0 0 0) (1 ∷ 7 ∷ []) 35 ∷ []
 
 -- single moves that empty the turn with 6, though Definition 3 says blocked
 unfoldable pub turnMoves : List Move

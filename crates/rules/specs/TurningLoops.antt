@@ -3,7 +3,7 @@
 use Prim.Native.Nat.{ℕ, _+_, _*_}
 use mathlib.Core.List.{List, [], _∷_, flatten}
 use lib.ListN.{length}
-use Rattle.rules.specs.Rows.{Row, marked, board, refused}
+use Rattle.rules.specs.Rows.{Row, onSheet, acceptedBoard, refusedBoard}
 
 -- a zone's bytes: its ends, its carrier and the heading
 abbrev zone : ℕ → ℕ → ℕ → ℕ → List ℕ
@@ -27,35 +27,35 @@ toLoop last = laidOut 2 (zone 0 1 5 0 ∷ last ∷ [])
 unfoldable pub turningLoops : List Row
 turningLoops =
     -- equal ends are no part of row 6, whose other parts stand
-    refused (lastOfT (free 0 0)) 8 ∷
-    refused (lastOfT (free 0 2)) 6 ∷
-    refused (lastOfT (free 2 2)) 6 ∷
-    refused (lastOfT (zone 0 0 0 1)) 6 ∷
-    refused (lastOfT (zone 0 0 7 2)) 6 ∷
+    refusedBoard (lastOfT (free 0 0)) 8 ∷
+    refusedBoard (lastOfT (free 0 2)) 6 ∷
+    refusedBoard (lastOfT (free 2 2)) 6 ∷
+    refusedBoard (lastOfT (zone 0 0 0 1)) 6 ∷
+    refusedBoard (lastOfT (zone 0 0 7 2)) 6 ∷
     -- a loop counts twice toward the two zones of its point
-    refused (laidOut 2 (free 0 0 ∷ free 1 1 ∷ [])) 9 ∷
-    board (lastOfT (free 1 1)) 0 [] [] ∷
+    refusedBoard (laidOut 2 (free 0 0 ∷ free 1 1 ∷ [])) 9 ∷
+    acceptedBoard (lastOfT (free 1 1)) 0 [] [] ∷
     -- a free loop turns a carrier, by the smaller of its two words; a held one turns nobody
-    board (toLoop (free 1 1)) 0 (5 ∷ 3 ∷ 0 ∷ 2 ∷ 1 ∷ []) [] ∷
-    board (toLoop (zone 1 1 6 0)) 20 [] (5 ∷ 6 ∷ []) ∷
-    board (toLoop (zone 1 1 6 1)) 20 [] (5 ∷ 6 ∷ []) ∷
+    acceptedBoard (toLoop (free 1 1)) 0 (5 ∷ 3 ∷ 0 ∷ 2 ∷ 1 ∷ []) [] ∷
+    acceptedBoard (toLoop (zone 1 1 6 0)) 20 [] (5 ∷ 6 ∷ []) ∷
+    acceptedBoard (toLoop (zone 1 1 6 1)) 20 [] (5 ∷ 6 ∷ []) ∷
     -- a carrier in a loop leaves at its point with either heading
-    board (laidOut 2 (zone 0 1 5 1 ∷ zone 1 1 6 0 ∷ [])) 0 (5 ∷ 1 ∷ 1 ∷ 6 ∷ 2 ∷ 2 ∷ 1 ∷ []) [] ∷
-    board (lastOfT (zone 1 1 6 0)) 0 (6 ∷ 2 ∷ 2 ∷ 1 ∷ []) [] ∷
-    board (lastOfT (zone 1 1 6 1)) 0 (6 ∷ 2 ∷ 3 ∷ 1 ∷ []) [] ∷
+    acceptedBoard (laidOut 2 (zone 0 1 5 1 ∷ zone 1 1 6 0 ∷ [])) 0 (5 ∷ 1 ∷ 1 ∷ 6 ∷ 2 ∷ 2 ∷ 1 ∷ []) [] ∷
+    acceptedBoard (lastOfT (zone 1 1 6 0)) 0 (6 ∷ 2 ∷ 2 ∷ 1 ∷ []) [] ∷
+    acceptedBoard (lastOfT (zone 1 1 6 1)) 0 (6 ∷ 2 ∷ 3 ∷ 1 ∷ []) [] ∷
     -- at home
-    board (laidOut 2 (free 0 1 ∷ free 0 1 ∷ zone 0 0 5 1 ∷ [])) 0 (5 ∷ 1 ∷ 5 ∷ []) [] ∷
-    board (laidOut 2 (zone 0 1 7 0 ∷ zone 0 1 9 0 ∷ free 0 0 ∷ [])) 20 [] (7 ∷ 9 ∷ []) ∷
+    acceptedBoard (laidOut 2 (free 0 1 ∷ free 0 1 ∷ zone 0 0 5 1 ∷ [])) 0 (5 ∷ 1 ∷ 5 ∷ []) [] ∷
+    acceptedBoard (laidOut 2 (zone 0 1 7 0 ∷ zone 0 1 9 0 ∷ free 0 0 ∷ [])) 20 [] (7 ∷ 9 ∷ []) ∷
     -- beside a held zone, beside a held loop, and behind a held zone: joining isn't done again for who heads into what was joined
-    board (laidOut 2 (zone 0 1 5 0 ∷ zone 0 1 6 0 ∷ free 1 1 ∷ [])) 0 (5 ∷ 3 ∷ 0 ∷ 4 ∷ 1 ∷ 6 ∷ 2 ∷ 2 ∷ 1 ∷ []) [] ∷
-    board (laidOut 2 (zone 0 1 5 0 ∷ zone 1 1 6 0 ∷ free 1 1 ∷ [])) 0 (5 ∷ 3 ∷ 0 ∷ 4 ∷ 1 ∷ 6 ∷ 2 ∷ 2 ∷ 1 ∷ []) [] ∷
-    board (laidOut 3 (zone 0 1 5 0 ∷ zone 1 2 6 0 ∷ free 2 2 ∷ [])) 20 [] (5 ∷ 6 ∷ []) ∷
+    acceptedBoard (laidOut 2 (zone 0 1 5 0 ∷ zone 0 1 6 0 ∷ free 1 1 ∷ [])) 0 (5 ∷ 3 ∷ 0 ∷ 4 ∷ 1 ∷ 6 ∷ 2 ∷ 2 ∷ 1 ∷ []) [] ∷
+    acceptedBoard (laidOut 2 (zone 0 1 5 0 ∷ zone 1 1 6 0 ∷ free 1 1 ∷ [])) 0 (5 ∷ 3 ∷ 0 ∷ 4 ∷ 1 ∷ 6 ∷ 2 ∷ 2 ∷ 1 ∷ []) [] ∷
+    acceptedBoard (laidOut 3 (zone 0 1 5 0 ∷ zone 1 2 6 0 ∷ free 2 2 ∷ [])) 20 [] (5 ∷ 6 ∷ []) ∷
     -- a loop is not entered again straight after itself, the same way or the other; either way round is right
-    marked (toLoop (free 1 1)) (0 ∷ 5 ∷ 4 ∷ 0 ∷ 2 ∷ 2 ∷ 1 ∷ []) 32 ∷
-    marked (toLoop (free 1 1)) (0 ∷ 5 ∷ 4 ∷ 0 ∷ 2 ∷ 3 ∷ 1 ∷ []) 32 ∷
-    marked (toLoop (free 1 1)) (0 ∷ 5 ∷ 3 ∷ 0 ∷ 3 ∷ 1 ∷ []) 0 ∷
-    marked (toLoop (free 1 1)) (0 ∷ 5 ∷ 3 ∷ 0 ∷ 2 ∷ 1 ∷ []) 0 ∷
+    onSheet (toLoop (free 1 1)) (0 ∷ 5 ∷ 4 ∷ 0 ∷ 2 ∷ 2 ∷ 1 ∷ []) 32 ∷
+    onSheet (toLoop (free 1 1)) (0 ∷ 5 ∷ 4 ∷ 0 ∷ 2 ∷ 3 ∷ 1 ∷ []) 32 ∷
+    onSheet (toLoop (free 1 1)) (0 ∷ 5 ∷ 3 ∷ 0 ∷ 3 ∷ 1 ∷ []) 0 ∷
+    onSheet (toLoop (free 1 1)) (0 ∷ 5 ∷ 3 ∷ 0 ∷ 2 ∷ 1 ∷ []) 0 ∷
     -- a loop with a carrier, and the claim there; a bad board
-    marked (toLoop (zone 1 1 6 0)) (0 ∷ 5 ∷ 3 ∷ 0 ∷ 2 ∷ 1 ∷ []) 32 ∷
-    marked (toLoop (zone 1 1 6 0)) (1 ∷ 5 ∷ 6 ∷ []) 0 ∷
-    marked (lastOfT (free 0 0)) (0 ∷ []) 8 ∷ []
+    onSheet (toLoop (zone 1 1 6 0)) (0 ∷ 5 ∷ 3 ∷ 0 ∷ 2 ∷ 1 ∷ []) 32 ∷
+    onSheet (toLoop (zone 1 1 6 0)) (1 ∷ 5 ∷ 6 ∷ []) 0 ∷
+    onSheet (lastOfT (free 0 0)) (0 ∷ []) 8 ∷ []

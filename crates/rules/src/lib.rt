@@ -1,1 +1,1 @@
-// Definitions alone: what the key and the collapse of document 01 are. See specs/.
+// Definitions alone: what the key, the collapse and the mark are. See specs/.

@@ -110,4 +110,5 @@ fn main() {
     group("large", (0..60).map(|_| boards::accepted(&mut random, 40, 90, 4, Loops::None)).filter(|b| b.zones.len() <= 96).collect(), 100);
     group("full", (0..60).map(|_| boards::accepted(&mut random, 40, 90, 1, Loops::None)).filter(|b| b.zones.len() <= 96).collect(), 100);
     group("worst", (0..20).map(|_| worst()).collect(), 40);
+    group("loops", (0..60).map(|_| boards::accepted(&mut random, 40, 90, 4, Loops::OnceIn(2))).filter(|b| b.zones.len() <= 96).collect(), 100);
 }

@@ -45,9 +45,6 @@ pub fn accepted(random: &mut Random, points: usize, zones: usize, sparse: usize,
         let near = if random.once_in(3) { ends[random.below(ends.len())] } else { (a, (a + 1 + random.below(points - 1)) % points) };
         ends.push(near);
     }
-    if ends.len() < 2 {
-        ends.push(ends[0]);
-    }
     shuffle(random, &mut ends);
     let mut numbers: Vec<u32> = (1..=255).collect();
     shuffle(random, &mut numbers);
@@ -63,6 +60,25 @@ pub fn accepted(random: &mut Random, points: usize, zones: usize, sparse: usize,
     Board { points, home, zones }
 }
 
+/// Every board of so many points and zones, with every home, pair of ends, heading and choice of held zones, accepted or not. The carriers'
+/// order isn't that of their zones.
+pub fn every(points: usize, zones: usize) -> impl Iterator<Item = Board> {
+    let numbers = [9, 5, 7, 6];
+    let kinds = 3 * points * points;
+    (0..points * kinds.pow(zones as u32)).map(move |n| {
+        let mut rest = n / points;
+        let zones = (0..zones)
+            .map(|z| {
+                let kind = rest % kinds;
+                rest /= kinds;
+                let (carrier, heading) = [(0, 0), (numbers[z], 0), (numbers[z], 1)][kind % 3];
+                Zone { a: kind / 3 / points, b: kind / 3 % points, carrier, heading }
+            })
+            .collect();
+        Board { points, home: n % points, zones }
+    })
+}
+
 pub fn shuffle<T>(random: &mut Random, items: &mut [T]) {
     for i in (1..items.len()).rev() {
         items.swap(i, random.below(i + 1));
@@ -73,7 +89,7 @@ pub fn shuffle<T>(random: &mut Random, items: &mut [T]) {
 pub fn damaged(random: &mut Random, board: &Board) -> Vec<u8> {
     let mut bytes = board.bytes();
     for _ in 0..1 + random.below(3) {
-        match random.below(6) {
+        match random.below(7) {
             0 => {
                 bytes.truncate(random.below(bytes.len() + 1));
             }
@@ -90,6 +106,13 @@ pub fn damaged(random: &mut Random, board: &Board) -> Vec<u8> {
                 // A zone's ends made equal: a point may lose its second zone, or hang together with the others no more.
                 let end = 6 + 4 * random.below((bytes.len() - 6) / 4);
                 bytes[end + 1] = bytes[end];
+            }
+            4 if bytes.len() >= 14 => {
+                // A carrier in two zones.
+                let zones = (bytes.len() - 6) / 4;
+                let from = 6 + 4 * random.below(zones);
+                let to = 6 + 4 * random.below(zones);
+                bytes[to + 2] = bytes[from + 2];
             }
             _ if !bytes.is_empty() => {
                 let end = if random.once_in(2) { bytes.len().min(6) } else { bytes.len() };

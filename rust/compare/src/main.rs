@@ -79,13 +79,13 @@ fn compare_board(tally: &mut Tally, random: &mut Random, board: &Board) {
     if second::read(&bytes).as_ref() != Ok(board) {
         differ("the generator made a board that is not accepted", &bytes, String::new());
     }
-    tally.loops.add(board);
     compare_key(tally, &bytes, room + random.below(3), out + random.below(3));
     if random.once_in(8) {
         compare_key(tally, &bytes, room.saturating_sub(1), out.saturating_sub(random.below(2)));
         compare_key(tally, &bytes, room, out.saturating_sub(1));
     }
     let named = second::named(board);
+    tally.loops.add(board, &named);
     let tried = sheets::by_tries(random, board);
     let claim = sheets::claim(&named);
     for sheet in [&tried, &claim] {
@@ -120,6 +120,21 @@ fn compare_exhaustive(tally: &mut Tally, board: &Board) {
     tally.exhaustive += 1;
 }
 
+/// A board that may be refused: the key, the collapse and the key's own sheet, and an accepted one by exhaustion.
+fn compare_small(tally: &mut Tally, board: &Board) {
+    let bytes = board.bytes();
+    let accepted = second::read(&bytes).is_ok();
+    tally.boards += 1;
+    tally.accepted += accepted as usize;
+    compare_key(tally, &bytes, 24, 3);
+    let key = second::key(&bytes, 24, 3);
+    let sheet = if key.list.is_empty() { [vec![0], key.plan].concat() } else { sheets::claim(&key.list) };
+    compare_mark(tally, &bytes, &sheet);
+    if accepted {
+        compare_exhaustive(tally, board);
+    }
+}
+
 /// No turning loop, some, or many.
 fn any_loops(random: &mut Random) -> Loops {
     [Loops::None, Loops::OnceIn(4), Loops::OnceIn(1)][random.below(3)]
@@ -129,6 +144,11 @@ fn main() {
     let mut random = Random::new(SEED);
     let mut tally = Tally::default();
     println!("seed {SEED}");
+    for (points, zones) in [(2, 2), (2, 3), (3, 2), (3, 3)] {
+        for board in boards::every(points, zones) {
+            compare_small(&mut tally, &board);
+        }
+    }
     for round in 0..80_000 {
         let points = 2 + random.below(4);
         let zones = 2 + random.below(6);
@@ -169,6 +189,10 @@ fn main() {
         tally.boards += 1;
         compare_key(&mut tally, &bytes, 8, 8);
     }
+    if !tally.loops.fair() {
+        println!("too few boards or sheets with turning loops of some kind: {:?}", tally.loops);
+        std::process::exit(1);
+    }
     println!(
         "{} boards ({} accepted), {} sheets ({} passed), {} boards by exhaustion, {} of them full: no difference",
         tally.boards, tally.accepted, tally.sheets, tally.passed, tally.exhaustive, tally.full
@@ -176,8 +200,4 @@ fn main() {
     println!("turning loops: {:?}", tally.loops);
     println!("verdicts {:?}", tally.verdicts);
     println!("marks {:?}", tally.marks);
-    if !tally.loops.fair() {
-        println!("difference: too few boards or sheets with turning loops of some kind");
-        std::process::exit(1);
-    }
 }

@@ -65,7 +65,7 @@ impl fmt::Display for Refused {
             5 => "L isn't 4 + 4 × Z",
             6 => "an end not below P, heading over 1, or a free zone with heading 1",
             7 => "a carrier in two zones",
-            8 => "a point other than home with under two zones",
+            8 => "a point other than home with under two zones, a turning loop counted twice",
             _ => "points that don't hang together",
         };
         write!(f, "refused {}: {row}", self.0)

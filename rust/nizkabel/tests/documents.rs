@@ -1,6 +1,6 @@
 //! The boards, sheets and refusals of documents 01 and 02 by the wrapper's two layers.
 
-use nizkabel::owned::{self, Entry};
+use nizkabel::owned::{self, Entry, Refused};
 use second::document_01::{k, refused, starred, SHEETS_FOR_K};
 use second::document_02::{loops_refused, to_loop, turning_loops, SHEETS_FOR_LOOP};
 
@@ -20,19 +20,23 @@ fn boards() {
     }
 }
 
+fn refusal(board: &[u8], number: u32) -> Refused {
+    let refused = owned::key(board).unwrap_err();
+    assert_eq!(refused.number(), number);
+    assert_eq!(owned::collapse(board), Err(refused));
+    assert_eq!(owned::mark(board, &[0]), Err(refused));
+    refused
+}
+
 #[test]
 fn refusals() {
     let mut told = Vec::new();
     for (number, board) in (1..).zip(refused()) {
-        let refused = owned::key(&board).unwrap_err();
-        assert_eq!(refused.number(), number);
-        assert_eq!(owned::collapse(&board), Err(refused));
-        assert_eq!(owned::mark(&board, &[0]), Err(refused));
-        let error: Box<dyn std::error::Error> = refused.into();
+        let error: Box<dyn std::error::Error> = refusal(&board, number).into();
         told.push(error.to_string());
     }
     for (board, number) in loops_refused() {
-        assert_eq!(owned::key(&board).unwrap_err().number(), number);
+        refusal(&board, number);
     }
     assert!(told.iter().enumerate().all(|(i, text)| text.starts_with(&format!("refused {}: ", i + 1))));
     told.sort();

@@ -1,4 +1,4 @@
-//! The boards and sheets of document 01 with what it gives them, for the tests of this implementation and of the wrapper.
+//! The boards and sheets of document 01 with what they give, for the tests of this implementation and of the wrapper.
 
 /// Board T with these carriers and headings in its two zones.
 pub fn t(first: [u8; 2], second: [u8; 2]) -> Vec<u8> {
@@ -36,7 +36,8 @@ pub fn starred() -> [Row; 8] {
     ]
 }
 
-/// The input of each of the rows 1 to 9, in their order; for row 6 one whose ends aren't equal, which request c of document 02 allows.
+/// The input of each of the rows 1 to 9, in their order. Row 6's own has equal ends, which request c of document 02 allows: an end that is
+/// not below P stands for it.
 pub fn refused() -> [Vec<u8>; 9] {
     let with = |at: usize, bytes: &[u8]| {
         let mut board = t([0, 0], [0, 0]);

@@ -1,4 +1,4 @@
-// What a board is, by document 01 with request c of document 02: definitions alone, see specs/; and the numbers that its track has in code, beside the list of its ends.
+// What a board is: definitions alone, see specs/; and the numbers that its track has in code, beside the list of its ends.
 
 // Points P, the home point, zones Z.
 pub struct Head {

@@ -1,6 +1,6 @@
 -- The table of verdicts of document 01, each number with its own input, and inputs beside them that tell a row from its neighbours. Only for 6
--- another stands here: its own has equal ends, which request c of document 02 allows (TurningLoops.antt). With the starred boards these pin the numbers, the rooms
--- and the layout of bytes that no theorem speaks of.
+-- another stands here: its own has equal ends, which request c of document 02 allows (TurningLoops.antt). With the starred boards these pin the
+-- numbers, the rooms and the layout of bytes that no theorem speaks of.
 use Prim.Native.Nat.{ℕ}
 use mathlib.Core.List.{List, [], _∷_}
 use Rattle.rules.specs.Key.{turnedBack}

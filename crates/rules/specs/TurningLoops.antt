@@ -20,7 +20,7 @@ laidOut points zones = 0 ∷ (4 + 4 * length zones) ∷ 1 ∷ points ∷ 0 ∷ l
 abbrev lastOfT : List ℕ → List ℕ
 lastOfT last = laidOut 2 (free 0 1 ∷ last ∷ [])
 
--- carrier 5 heads for point 1, which has a turning loop
+-- carrier 5 heads for point 1, which has this zone too
 abbrev toLoop : List ℕ → List ℕ
 toLoop last = laidOut 2 (zone 0 1 5 0 ∷ last ∷ [])
 

@@ -60,10 +60,10 @@ pub fn accepted(random: &mut Random, points: usize, zones: usize, sparse: usize,
     Board { points, home, zones }
 }
 
-/// Every board of so many points and zones, with every home, pair of ends, heading and choice of held zones, accepted or not. The carriers'
-/// order isn't that of their zones.
+/// Every board of so many points and up to three zones, with every home, pair of ends, heading and choice of held zones, accepted or not.
+/// The carriers' order isn't that of their zones.
 pub fn every(points: usize, zones: usize) -> impl Iterator<Item = Board> {
-    let numbers = [9, 5, 7, 6];
+    let numbers = [9, 5, 7];
     let kinds = 3 * points * points;
     (0..points * kinds.pow(zones as u32)).map(move |n| {
         let mut rest = n / points;

@@ -8,7 +8,7 @@ fn laid_out(points: u8, zones: &[[u8; 4]]) -> Vec<u8> {
     [&[0, 4 + 4 * count, 1, points, 0, count], zones.concat().as_slice()].concat()
 }
 
-/// Carrier 5 heads for point 1, which has this zone.
+/// Carrier 5 heads for point 1, which has this zone too.
 pub fn to_loop(last: [u8; 4]) -> Vec<u8> {
     laid_out(2, &[[0, 1, 5, 0], last])
 }

@@ -8,7 +8,7 @@ use Rattle.rules.specs.Starred.{boardT}
 use Rattle.rules.specs.Rows.{Row, onBoard, onSheet, refusedBoard}
 
 -- an ordered board with room for one carrier out and two zones, and no more
-ordered : List ℕ → List ℕ → Row
+abbrev ordered : List ℕ → List ℕ → Row
 ordered b plan = onBoard b 6 1 (record { verdict = 0; plan = plan; list = [] }) (record { number = 0; list = [] })
 
 -- board T with other first bytes; board K
@@ -24,7 +24,6 @@ zonesFree ℕ.zero = []
 zonesFree (ℕ.suc n) = 0 ∷ 1 ∷ 0 ∷ 0 ∷ zonesFree n
 
 unfoldable pub table : List Row
-unfolding ordered
 table =
     -- 1 to 9
     refusedBoard (0 ∷ 12 ∷ 1 ∷ []) 1 ∷

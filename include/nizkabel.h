@@ -22,7 +22,7 @@ extern "C" {
 #define NIZKABEL_LIST_ROOM 96
 
 /* No call takes more bytes of stack, a first call through the dynamic linker included; a collapse or a mark takes half of it at most.
- * The gate measures this. */
+ * .ci/run measures this. */
 #define NIZKABEL_STACK 16384
 
 /* The numbers, as in the README's table. L, P and Z are the board's length, points and zones, C the carriers out. */
@@ -45,7 +45,7 @@ enum nizkabel_number {
     NIZKABEL_ONE_BLOCKED = 21,    /* exactly one is */
     NIZKABEL_BAD_SHEET = 30,      /* empty, starts with neither 0 nor 1, or an entry with under two words, a count of 0 or past the end */
     NIZKABEL_NOT_OUT = 31,        /* the carrier isn't still out */
-    NIZKABEL_BAD_WORD = 32,       /* its first word isn't where it stands, or a word breaks the rules */
+    NIZKABEL_BAD_WORD = 32,       /* its first word isn't where it stands, or a word breaks the rules or goes on from home */
     NIZKABEL_NOT_HOME = 33,       /* its last word doesn't leave at home */
     NIZKABEL_STILL_OUT = 34,      /* a carrier is still out at the end */
     NIZKABEL_FALSE_CLAIM = 35     /* a false claim of blocked */

@@ -72,7 +72,7 @@ module _ {t : Track} {p : Position} (laid : Laid t p) {H : ℕ → Type 0} (clos
         by false e = at-without-kept (eqb c) q (zoneOf x) e ∙ kept .as-first x h out
 
     kept-allowed : {m : Move} {r : Position} → Allowed t q m r → Kept t p H r
-    kept-allowed (enters {c = c} {w = w} u s h free touches) =
+    kept-allowed (enters {c = c} {w = w} u s elsewhere h free touches) =
         record {
           laid-now = moved-laid t q (kept .laid-now) c u w s h;
           as-first = λ x hx out.

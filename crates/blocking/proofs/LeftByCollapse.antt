@@ -10,7 +10,7 @@ use Rattle.model.specs.Track.{Track, zoneOf, rev, start, leave}
 use Rattle.model.specs.Position.{Position, at, carrierOf, isFree, Stands, standing}
 use Rattle.model.specs.Labels.{label}
 use Rattle.model.specs.Accepted.{Laid}
-use Rattle.rules.specs.Routes.{Step, Onward, arrives, goes, Route, route}
+use Rattle.rules.specs.Routes.{UngatedStep, Onward, arrives, goes, Route, route}
 use Rattle.rules.specs.Tries.{CanGo}
 use Rattle.rules.specs.Collapse.{freeParts, loopIn, turns}
 use Rattle.model.proofs.WordLaws.{zone-rev, rev-below, zone-below, leave-rev, same-zone}
@@ -59,7 +59,7 @@ module _ {t : Track} {p q : Position} (laid : Laid t p) {H : ℕ → Type 0} (cl
 
   module _ (c e : ℕ) (stands : Stands p c e) (leaves : H (leave t e) → ⊥) where
     -- a step into a held zone is a step into its own
-    own-zone : {w v : ℕ} → Step t q c w v → isFree q (zoneOf v) ≡ false → zoneOf v ≡ zoneOf e
+    own-zone : {w v : ℕ} → UngatedStep t q c w v → isFree q (zoneOf v) ≡ false → zoneOf v ≡ zoneOf e
     own-zone {w} {v} st held = sym (standing-zone p (zoneOf v)) ∙ ap zoneOf (laid .once c (standing p (zoneOf v)) e mine stands)
       where
         there : Stands q (carrierOf (at p (zoneOf v))) (standing p (zoneOf v))
@@ -74,7 +74,7 @@ module _ {t : Track} {p q : Position} (laid : Laid t p) {H : ℕ → Type 0} (cl
 
     -- with a loop in its part it stays outside: both ends of its zone are
     module _ (turning : turns t p (freeParts t p) (zoneOf e) ≡ true) where
-      stays-out : {w v : ℕ} → Step t q c w v → (H (leave t w) → ⊥) → H (leave t v) → ⊥
+      stays-out : {w v : ℕ} → UngatedStep t q c w v → (H (leave t w) → ⊥) → H (leave t v) → ⊥
       stays-out {w} {v} st out = by (isFree q (zoneOf v)) refl
         where
           out-start : H (start t v) → ⊥
@@ -91,7 +91,7 @@ module _ {t : Track} {p q : Position} (laid : Laid t p) {H : ℕ → Type 0} (cl
 
       never-home : {w : ℕ} {vs : List ℕ} → Onward t q c w vs → (H (leave t w) → ⊥) → ⊥
       never-home (arrives l) out = out (subst H (sym l) (closed .has-home))
-      never-home (goes st on) out = never-home on (stays-out st out)
+      never-home (goes st on) out = never-home on (stays-out (st .ungated) out)
 
     -- with none it never comes back to its own zone but by its start
     module _ (straight : turns t p (freeParts t p) (zoneOf e) ≡ false) where
@@ -101,7 +101,7 @@ module _ {t : Track} {p q : Position} (laid : Laid t p) {H : ℕ → Type 0} (cl
       at-first : Trail t p H e e
       at-first = record { words = []; walk = stay; apart = λ v n. tt; begun = λ n. refl; outside = leaves }
 
-      trail-on : {w v : ℕ} → Step t q c w v → Trail t p H e w → Trail t p H e v
+      trail-on : {w v : ℕ} → UngatedStep t q c w v → Trail t p H e w → Trail t p H e v
       trail-on {w} {v} st k = by (isFree q (zoneOf v)) refl
         where
           out-start : H (start t v) → ⊥
@@ -135,7 +135,7 @@ module _ {t : Track} {p q : Position} (laid : Laid t p) {H : ℕ → Type 0} (cl
 
       never-straight : {w : ℕ} {vs : List ℕ} → Onward t q c w vs → Trail t p H e w → ⊥
       never-straight (arrives l) k = k .outside (subst H (sym l) (closed .has-home))
-      never-straight (goes st on) k = never-straight on (trail-on st k)
+      never-straight (goes st on) k = never-straight on (trail-on (st .ungated) k)
 
     never-goes : {vs : List ℕ} → Onward t q c e vs → ⊥
     never-goes on = by (turns t p (freeParts t p) (zoneOf e)) refl

@@ -9,12 +9,13 @@ use Rattle.model.specs.Track.{Track, Linked, here, over, zoneOf, rev, start, le
 use Rattle.model.specs.Position.{Position, at, carrierOf, isFree, Stands, standing}
 use Rattle.model.specs.Labels.{label}
 use Rattle.model.specs.Accepted.{Laid}
-use Rattle.rules.specs.Routes.{Step, goes, route}
+use Rattle.rules.specs.Routes.{UngatedStep, goes, route}
 use Rattle.rules.specs.Tries.{NoneCanGo}
 use Rattle.rules.specs.Collapse.{freeParts, loopIn, turns}
 use Rattle.model.proofs.WordLaws.{zone-rev, rev-below, zone-below, leave-rev, same-zone}
 use Rattle.model.proofs.PositionLaws.{stands-carrier, stands-below, stands-not-free}
 use Rattle.order.proofs.Within.{Within, stands-before}
+use Rattle.homegate.proofs.RouteCut.{route-cut}
 use Rattle.turning.specs.Walks.{Walk}
 use Rattle.turning.proofs.WalkLaws.{apart-outside, widen, walk-of-linked}
 use Rattle.blocking.proofs.Standings.{standing-zone, within-free, still-stands, held-stands}
@@ -35,12 +36,12 @@ module _ {t : Track} {p q : Position} (laid : Laid t p) (within : Within q p) (n
   leaves-far {c} {w} s near =
       let k : (ws : List ℕ) × Walk t (isFree q) (leave t w) ws (t .home) = walk-of-linked t (isFree q) near in
       let r : Homeward t q c w = walk-home t q c (k .1) w refl (apart-outside w (stands-not-free s) (k .1)) in
-      none c (w ∷ r .0, route s (r .1))
+      none c (route-cut (route s (r .1)))
 
   -- so could one that turns, where it starts at such a point: by turning in its part and back through its own zone
   starts-far : {c w : ℕ} → Stands q c w → turns t p (freeParts t p) (zoneOf w) ≡ true → Near (start t w) → ⊥
   starts-far {c} {w} s e near =
-      none c (w ∷ turned .0, route s (turned .1))
+      none c (route-cut (route s (turned .1)))
     where
       loop : loopIn t p (freeParts t p) (label (freeParts t p) (leave t w)) ≡ true
       loop = sym (turns-loop t (freeParts t p) (stands-before within s)) ∙ e
@@ -60,7 +61,7 @@ module _ {t : Track} {p q : Position} (laid : Laid t p) (within : Within q p) (n
       back : Homeward t q c (rev w)
       back = walk-home t q c (rest .1) (rev w) (leave-rev t w) (apart-outside (rev w) held-back (rest .1))
 
-      own : (x : ℕ) → isFree q (zoneOf x) ≡ true → leave t x ≡ leave t w → Step t q c x (rev w)
+      own : (x : ℕ) → isFree q (zoneOf x) ≡ true → leave t x ≡ leave t w → UngatedStep t q c x (rev w)
       own x f l =
           record {
             word = rev-below (t .zones) w (word-of s);

@@ -1,5 +1,5 @@
 -- A walk over free zones as a part of a route: a carrier goes along it, home or to where it goes on.
--- By induction on the walk, each word a step of the carrier.
+-- By induction on the walk, each word a step of the carrier by the older rule: a walk may pass the home point, and the route is cut there later.
 use Prim.Native.Nat.{ℕ, _*_, _<_}
 use mathlib.Core.List.{List, [], _∷_}
 use mathlib.Core.Path.{_≡_, refl, sym, _∙_}
@@ -7,16 +7,16 @@ use mathlib.Core.Logic.{inl}
 use mathlib.Core.Bool.{true}
 use Rattle.model.specs.Track.{Track, zoneOf, start, leave}
 use Rattle.model.specs.Position.{Position, isFree}
-use Rattle.rules.specs.Routes.{Step, Onward, arrives, goes}
+use Rattle.rules.specs.Routes.{UngatedStep, OnwardBy, arrives, goes}
 use Rattle.turning.specs.Walks.{AnotherZone, Walk, stay, go}
 use Rattle.blocking.proofs.Standings.{free-number}
 
 module _ (t : Track) (q : Position) (c : ℕ) where
   -- from word w on, some words lead home
   abbrev pub Homeward : ℕ → Type 0
-  Homeward w = (vs : List ℕ) × Onward t q c w vs
+  Homeward w = (vs : List ℕ) × OnwardBy UngatedStep t q c w vs
 
-  step-free : {w : ℕ} (x : ℕ) → x < 2 * t .zones → isFree q (zoneOf x) ≡ true → start t x ≡ leave t w → (zoneOf x ≡ zoneOf w → ⊥) → Step t q c w x
+  step-free : {w : ℕ} (x : ℕ) → x < 2 * t .zones → isFree q (zoneOf x) ≡ true → start t x ≡ leave t w → (zoneOf x ≡ zoneOf w → ⊥) → UngatedStep t q c w x
   step-free x h e s a = record { word = h; touches = s; another = a; clear = inl (free-number q (zoneOf x) e) }
 
   -- on from w along a walk over free zones, and from its last word on home

@@ -15,7 +15,7 @@ use Rattle.model.specs.Track.{Track}
 use Rattle.model.specs.Position.{Position, outs}
 use Rattle.model.specs.Reading.{refusal, trackSaid, positionSaid}
 use Rattle.rules.specs.Routes.{Blocked}
-use Rattle.rules.specs.Key.{KeyAnswer, keyFor, named}
+use Rattle.rules.specs.Key.{KeyAnswer, keyForBy, named}
 use Rattle.rules.specs.Collapse.{CollapseAnswer, collapseIn, collapseOf}
 use Rattle.order.proofs.Named.{named-iff-blocked, named-ascending}
 use Rattle.demands.specs.Demands.{NamedRight}
@@ -65,7 +65,7 @@ collapse-turned-back b list {r} e n =
     }
 
 promised : (b : List ℕ) {list list′ : List ℕ} {number listed : ℕ} → refusal b ≡ 0 → Ready (trackSaid b) (positionSaid b) → CollapseGiven (collapseIn (trackSaid b) (positionSaid b) (length list)) list number listed list′ → CollapsePromise b list number listed list′
-unfolding keyFor
+unfolding keyForBy
 promised b {list} {list′} {number} {listed} none ready given =
     record {
       given = subst (λ (a : CollapseAnswer). CollapseGiven a list number listed list′) (sym (collapse-read-board b (length list) none)) given;

@@ -9,7 +9,7 @@ use lib.ListN.{length, drop}
 use Rattle.model.specs.Track.{Track}
 use Rattle.model.specs.declared.Summary.{Summary}
 use Rattle.model.specs.Position.{Position, onlyLeft, outs}
-use Rattle.rules.specs.Key.{named, verdictOf, turnsBack, keyFor, keyIn}
+use Rattle.rules.specs.Key.{named, namedBy, verdictOf, turnsBack, keyFor, keyForBy, keyIn}
 use Rattle.order.proofs.Within.{Within}
 use Rattle.order.proofs.OnlyLeft.{within-only}
 use Rattle.order.proofs.Named.{last-within}
@@ -46,7 +46,7 @@ module _ {t : Track} {p plan list : List ℕ} (room : Enough (t .zones) p plan l
 
   module _ {p′ plan′ : List ℕ} {planned : ℕ} (sent : SentHome t p plan p′ plan′ planned) where
     outs-last : outs p′ ≡ named t p
-    unfolding named
+    unfolding namedBy
     outs-last = ap outs (sent .last)
 
     sent-within : Ready t p → Within p′ p
@@ -66,7 +66,7 @@ module _ {t : Track} {p plan list : List ℕ} (room : Enough (t .zones) p plan l
       goes-on = ap turnsBack says ∙ verdict-goes (named t p)
 
       pub given-key : KeyGiven (keyIn t p (length plan) (length list)) plan list verdict planned listed plan′ list′
-      unfolding keyFor
+      unfolding keyForBy
       given-key = record {
         verdict-is = rw drawn says;
         planned-is = rw drawn (sent .counted);
@@ -79,5 +79,5 @@ module _ {t : Track} {p plan list : List ℕ} (room : Enough (t .zones) p plan l
       given-summary {out} counted = (λ i. record { points = t .points; zones = t .zones; out = counted i }) ∙ rw goes-on
 
       pub given-position : Ready t p → p′ ≡ positionLeft verdict (keyIn t p (length plan) (length list) .list) p
-      unfolding keyFor
+      unfolding keyForBy
       given-position ready = rw (goes-on, drawn) (within-only (sent-within ready) (ready .bounded .laid) ∙ ap (λ (l : List ℕ). onlyLeft l p) outs-last)

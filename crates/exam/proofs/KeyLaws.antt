@@ -13,7 +13,7 @@ use Rattle.model.specs.Position.{Position, outs}
 use Rattle.model.specs.Reading.{refusal, trackSaid, positionSaid}
 use Rattle.model.proofs.BoolLaws.{and-both}
 use Rattle.model.proofs.ReadingLaws.{refusal-small}
-use Rattle.rules.specs.Key.{verdictOf, KeyAnswer, turnedBack, turnsBack, keyFor, keyIn, keyOf}
+use Rattle.rules.specs.Key.{verdictOf, KeyAnswer, turnedBack, turnsBack, keyFor, keyIn, keyInBy, keyOf, keyOfBy}
 use Rattle.exam.specs.Operations.{Drawn}
 
 -- the verdict by how many are blocked
@@ -55,7 +55,7 @@ module _ (t : Track) (p : Position) (planRoom listRoom : ℕ) where
   list-short = ltb listRoom (length (outs p))
 
   key-by-rooms : keyIn t p planRoom listRoom ≡ by-rooms plan-short list-short
-  unfolding keyIn by-rooms plan-short list-short
+  unfolding keyInBy by-rooms plan-short list-short
   key-by-rooms = refl
 
   pub key-10 : planRoom < length (outs p) * (2 + 2 * t .zones) → keyIn t p planRoom listRoom ≡ turnedBack 10
@@ -92,11 +92,11 @@ module _ (b : List ℕ) (planRoom listRoom : ℕ) where
   by-refusal x = cond x (keyIn (trackSaid b) (positionSaid b) planRoom listRoom) (turnedBack (refusal b))
 
   pub key-refused : (refusal b ≡ 0 → ⊥) → keyOf b planRoom listRoom ≡ turnedBack (refusal b)
-  unfolding keyOf by-refusal
+  unfolding keyOfBy by-refusal
   key-refused n = ap by-refusal (ne-eqb (refusal b) 0 n)
 
   pub key-read : refusal b ≡ 0 → keyOf b planRoom listRoom ≡ keyIn (trackSaid b) (positionSaid b) planRoom listRoom
-  unfolding keyOf by-refusal
+  unfolding keyOfBy by-refusal
   key-read e = ap by-refusal (eq-eqb (refusal b) 0 e)
 
   -- a key that was drawn is the key of the track and the position

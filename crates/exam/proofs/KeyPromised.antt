@@ -10,7 +10,7 @@ use Rattle.model.specs.declared.Summary.{Summary}
 use Rattle.model.specs.Track.{Track}
 use Rattle.model.specs.Position.{Position}
 use Rattle.model.specs.Reading.{refusal, trackSaid, positionSaid}
-use Rattle.rules.specs.Key.{KeyAnswer, turnsBack, keyFor, keyIn, keyOf}
+use Rattle.rules.specs.Key.{KeyAnswer, turnsBack, keyFor, keyForBy, keyIn, keyOf}
 use Rattle.demands.specs.Demands.{KeyRight, NamedRight}
 use Rattle.demands.proofs.KeyMet.{key-right}
 use Rattle.demands.proofs.NamedMet.{named-right}
@@ -54,7 +54,7 @@ module _ (t : Track) (p : Position) {a : KeyAnswer} {plan list plan′ list′ :
   named-written h = subst (NamedRight t p) (sym (read-back (a .list) list (given .listed-is) (given .list-is))) h
 
 promised : (b plan list : List ℕ) {plan′ list′ : List ℕ} {verdict planned listed : ℕ} → refusal b ≡ 0 → Ready (trackSaid b) (positionSaid b) → KeyGiven (keyOf b (length plan) (length list)) plan list verdict planned listed plan′ list′ → KeyPromise b plan list verdict planned listed plan′ list′
-unfolding keyFor
+unfolding keyForBy
 promised b plan list {plan′} {list′} {verdict} {planned} {listed} none ready given =
     record {
       given = given;

@@ -12,7 +12,7 @@ use Rattle.model.specs.Track.{Track}
 use Rattle.model.specs.Position.{Position, outs}
 use Rattle.rules.specs.Key.{named}
 use Rattle.rules.specs.Collapse.{collapseIn}
-use Rattle.rules.specs.Sheet.{sameList, markClaim, markEntries, markFor}
+use Rattle.rules.specs.Sheet.{sameList, markClaim, markClaimBy, markEntries, markFor, markForBy}
 use Rattle.model.specs.Accepted.{Ready}
 use Rattle.exam.specs.Parsed.{CollapseGiven}
 use Rattle.exam.proofs.CollapseLaws.{named-counted, named-written}
@@ -24,12 +24,12 @@ module _ (t : Track) (p : Position) where
   by-kind x y ws = cond x (markEntries (length ws) t p ws) (cond y (markClaim t p ws) 30)
 
   pub mark-empty : (sheet : List ℕ) → length sheet ≡ 0 → 30 ≡ markFor t p sheet
-  unfolding markFor
+  unfolding markForBy
   mark-empty [] e = refl
   mark-empty (kind ∷ ws) e = absurd (omega arith)
 
   mark-kind : (sheet : List ℕ) (x y : Bool) → 0 < length sheet → eqb (getD sheet 0 0) 0 ≡ x → eqb (getD sheet 0 0) 1 ≡ y → by-kind x y (drop 1 sheet) ≡ markFor t p sheet
-  unfolding markFor by-kind
+  unfolding markForBy by-kind
   mark-kind [] x y h e f = absurd (omega arith)
   mark-kind (kind ∷ ws) x y h e f = ap (λ (x : Bool). by-kind x y ws) (sym e) ∙ ap (λ (y : Bool). by-kind (eqb kind 0) y ws) (sym f)
 
@@ -49,12 +49,12 @@ module _ (t : Track) (p : Position) where
   -- a claim
 
   claim-none : (ws : List ℕ) → named t p ≡ [] → 35 ≡ markClaim t p ws
-  unfolding markClaim sameList
+  unfolding markClaimBy sameList
   claim-none [] e = refl
   claim-none (c ∷ cs) e = sym (ap (λ (l : List ℕ). cond (sameList (c ∷ cs) l) 0 35) e)
 
   claim-some : (ws : List ℕ) → (length (named t p) ≡ 0 → ⊥) → cond (sameList ws (named t p)) 0 35 ≡ markClaim t p ws
-  unfolding markClaim sameList
+  unfolding markClaimBy sameList
   claim-some [] n = go (named t p) n
     where
       go : (l : List ℕ) → (length l ≡ 0 → ⊥) → _≡_ {A = ℕ} (cond (sameList [] l) 0 35) 35

@@ -9,7 +9,7 @@ use borrow.Author.Tests.{eq-eqb, ne-eqb}
 use Rattle.model.specs.Track.{Track}
 use Rattle.model.specs.Position.{Position}
 use Rattle.model.specs.Reading.{refusal, trackSaid, positionSaid}
-use Rattle.rules.specs.Sheet.{Right, markFor, markOf}
+use Rattle.rules.specs.Sheet.{Right, markFor, markOf, markOfBy}
 use Rattle.marking.proofs.SheetMarked.{marked-right}
 use Rattle.board.specs.declared.Board.{Board}
 use Rattle.board.specs.Given.{boardOf}
@@ -22,11 +22,11 @@ module _ (b sheet : List ℕ) where
   by-refusal x = cond x (markFor (trackSaid b) (positionSaid b) sheet) (refusal b)
 
   mark-refused-board : (refusal b ≡ 0 → ⊥) → markOf b sheet ≡ refusal b
-  unfolding markOf by-refusal
+  unfolding markOfBy by-refusal
   mark-refused-board n = ap by-refusal (ne-eqb (refusal b) 0 n)
 
   mark-read-board : refusal b ≡ 0 → markOf b sheet ≡ markFor (trackSaid b) (positionSaid b) sheet
-  unfolding markOf by-refusal
+  unfolding markOfBy by-refusal
   mark-read-board e = ap by-refusal (eq-eqb (refusal b) 0 e)
 
   pub mark-turned-back : {r : Board} → r ≡ boardOf b → (r .number ≡ 0 → ⊥) → MarkPromise b sheet (r .number)

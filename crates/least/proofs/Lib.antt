@@ -1,6 +1,7 @@
 pub mod FirstLaws
 pub mod RepeatLaws
 pub mod LeastWay
+pub mod GoalsShut
 pub mod QueueLaws
 pub mod ProperQueue
 pub mod SearchLaws

@@ -13,7 +13,7 @@ use Rattle.model.specs.Track.{Track, zoneOf, headingOf}
 use Rattle.model.specs.Position.{Position, at, retire}
 use Rattle.model.proofs.BoolLaws.{and-left, or-left, or-right}
 use Rattle.model.proofs.PositionLaws.{retire-set}
-use Rattle.rules.specs.Sheet.{stillOut, follow, byRules, endsHome, numberOf, markEntry}
+use Rattle.rules.specs.Sheet.{stillOut, follow, byRules, byRulesBy, endsHome, numberOf, markEntryBy}
 use Rattle.rules.proofs.OutTested.{stands-out}
 use Rattle.marker.specs.Marked.{Markable, standsAt, routeNumber, entryNumber, EntryMarked}
 use Rattle.marker.proofs.StandingLaws.{standing-word, standing-stands}
@@ -63,22 +63,22 @@ module _ (sheet : List ℕ) (place : ℕ) where
 
   module _ (t : Track) (p : Position) where
     number-short : place < length sheet → length sheet - place < 2 → entryNumber t p (drop place sheet) ≡ 30
-    unfolding entryNumber markEntry
+    unfolding entryNumber markEntryBy
     number-short h s = ap (entryNumber t p) (one-word h s)
 
     number-not-whole : 2 ≤ length sheet - place → (eqb counted 0 || ltb (length (drop (place + 2) sheet)) counted) ≡ true → entryNumber t p (drop place sheet) ≡ 30
-    unfolding entryNumber markEntry
+    unfolding entryNumber markEntryBy
     number-not-whole h e = ap (entryNumber t p) (two-words h) ∙ ap (λ (a : Bool). numberOf a (stillOut p carrier) (byRules t p carrier (take counted (drop (place + 2) sheet))) (endsHome t (take counted (drop (place + 2) sheet))) 0) e
 
     number-whole : WholeEntry → entryNumber t p (drop place sheet) ≡ numberOf false (stillOut p carrier) (byRules t p carrier (standing ∷ others)) (endsHome t (standing ∷ others)) 0
-    unfolding entryNumber markEntry
+    unfolding entryNumber markEntryBy
     number-whole h =
         ap (entryNumber t p) (two-words (h .two))
         ∙ ap₂ (λ (a : Bool) (r : List ℕ). numberOf a (stillOut p carrier) (byRules t p carrier r) (endsHome t r) 0) (whole-test h) (route-words h)
 
 -- a first word that isn't the standing of a carrier that is out is against the rules
 no-standing : (t : Track) (p : Position) (c w : ℕ) (vs : List ℕ) → stillOut p c ≡ true → standsAt (t .zones) p c w ≡ false → byRules t p c (w ∷ vs) ≡ false
-unfolding standsAt byRules stillOut
+unfolding standsAt byRulesBy stillOut
 no-standing t p c w vs o s = go (eqb c 0) (ltb w (2 * t .zones)) (eqb (at p (zoneOf w)) (2 * c + headingOf w)) (and-left (not (eqb c 0)) _ o) s
   where
     go : (a b d : Bool) → not a ≡ true → (not a && (b && d)) ≡ false → (b && (d && follow t p c w vs)) ≡ false
@@ -89,7 +89,7 @@ no-standing t p c w vs o s = go (eqb c 0) (ltb w (2 * t .zones)) (eqb (at p (zon
 
 -- from the standing on the rules are those of the route
 by-standing : (t : Track) (p : Position) (c w : ℕ) (vs : List ℕ) → standsAt (t .zones) p c w ≡ true → byRules t p c (w ∷ vs) ≡ follow t p c w vs
-unfolding standsAt byRules
+unfolding standsAt byRulesBy
 by-standing t p c w vs s = go (eqb c 0) (ltb w (2 * t .zones)) (eqb (at p (zoneOf w)) (2 * c + headingOf w)) s
   where
     go : (a b d : Bool) → (not a && (b && d)) ≡ true → (b && (d && follow t p c w vs)) ≡ follow t p c w vs

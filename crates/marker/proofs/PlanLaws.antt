@@ -14,14 +14,14 @@ use Rattle.model.specs.Track.{Track}
 use Rattle.model.specs.Position.{Position, retire}
 use Rattle.model.proofs.BoolLaws.{or-false-right}
 use Rattle.model.proofs.PositionLaws.{length-without, once-retire}
-use Rattle.rules.specs.Sheet.{stillOut, byRules, endsHome, markEnd, numberOf, markEntry, markEntries}
+use Rattle.rules.specs.Sheet.{stillOut, byRules, endsHome, markEnd, numberOf, markEntryBy, markEntries, markEntriesBy}
 use Rattle.marker.specs.Marked.{Markable, entryNumber, EntryMarked}
 
 too-many : {X : Type 0} (n : ℕ) → suc n ≤ 0 → X
 too-many n h = absurd (omega arith)
 
 enough : (n m : ℕ) (t : Track) (p : Position) (ws : List ℕ) → length ws ≤ n → length ws ≤ m → markEntries n t p ws ≡ markEntries m t p ws
-unfolding markEntries markEntry
+unfolding markEntriesBy markEntryBy
 enough zero zero t p ws h k = refl
 enough zero (suc m) t p [] h k = refl
 enough zero (suc m) t p (c ∷ ws) h k = too-many (length ws) h
@@ -51,7 +51,7 @@ goes-on false true true false rest h = absurd (let f : 33 ≡ zero = h in omega 
 goes-on false true true true rest h = (refl, refl)
 
 fails-words : (t : Track) (p : Position) (ws : List ℕ) → 0 < length ws → (entryNumber t p ws ≡ 0 → ⊥) → markEntries (length ws) t p ws ≡ entryNumber t p ws
-unfolding markEntries markEntry entryNumber
+unfolding markEntriesBy markEntryBy entryNumber
 fails-words t p [] h n = too-many 0 h
 fails-words t p (c ∷ []) h n = refl
 fails-words t p (c ∷ k ∷ ws) h n = stops (eqb k 0 || ltb (length ws) k) (stillOut p c) (byRules t p c (take k ws)) (endsHome t (take k ws)) (markEntries (suc (length ws)) t (retire c p) (drop k ws)) n
@@ -62,7 +62,7 @@ record EntryPassed (t : Track) (p : Position) (ws : List ℕ) : Type 0 where
   pub same : markEntries (length ws) t p ws ≡ markEntries (length (drop (2 + getD ws 1 0) ws)) t (retire (getD ws 0 0) p) (drop (2 + getD ws 1 0) ws)
 
 passes-words : (t : Track) (p : Position) (ws : List ℕ) → 0 < length ws → entryNumber t p ws ≡ 0 → EntryPassed t p ws
-unfolding markEntries markEntry entryNumber
+unfolding markEntriesBy markEntryBy entryNumber
 passes-words t p [] h e = too-many 0 h
 passes-words t p (c ∷ []) h e = absurd (let f : 30 ≡ zero = e in omega arith)
 passes-words t p (c ∷ k ∷ ws) h e =
@@ -88,7 +88,7 @@ begins m = record { markable = m; same = refl }
 
 module _ {t : Track} {first : Position} {sheet : List ℕ} {from : ℕ} {p : Position} {place : ℕ} (g : Marking t first sheet from p place) where
   pub entries-end : {r : ℕ} → length sheet ≤ place → r ≡ markEnd p → r ≡ markEntries (length (drop from sheet)) t first (drop from sheet)
-  unfolding markEntries
+  unfolding markEntriesBy
   entries-end h e = e ∙ sym (ap (λ (l : List ℕ). markEntries (length l) t p l) (drop-of-length-le sheet h)) ∙ g .same
 
   module _ (h : place < length sheet) {r : ℕ} {left : Position} (m : EntryMarked t p sheet place r left) where

@@ -23,7 +23,7 @@ pub fn stands(zones: usize, position: &[u32], carrier: u32, w: usize) -> bool
     position[w / 2] == 2 * carrier + (w % 2) as u32
 }
 
-// Whether the carrier may go from word w, which leaves at the point, to word v.
+// Whether the carrier may go from word w, which leaves at the point, to word v, as far as no home gate shuts it.
 fn may_step(
     ends: &[usize],
     position: &[u32],
@@ -60,6 +60,10 @@ pub fn mark_route(
     let mut point = word::leaving(ends, w);
     let mut i = from;
     while i < end {
+        // The home gate takes in every arrival: no word goes on from one that leaves there.
+        if point == head.home {
+            return 32;
+        }
         let v = sheet[i] as usize;
         if 2 * head.zones <= v {
             return 32;

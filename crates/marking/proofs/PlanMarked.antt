@@ -17,7 +17,7 @@ use Rattle.model.specs.Position.{Position, carrierOf, retire, outs}
 use Rattle.model.specs.Accepted.{Laid}
 use Rattle.rules.specs.Routes.{Route, route, Entry, Retires, done, next, Empty}
 use Rattle.rules.specs.Key.{planWords}
-use Rattle.rules.specs.Sheet.{OrderGiven, stillOut, byRules, endsHome, markEnd, numberOf, markEntry, markEntries}
+use Rattle.rules.specs.Sheet.{OrderGiven, stillOut, byRules, endsHome, markEnd, numberOf, markEntryBy, markEntries, markEntriesBy}
 use Rattle.rules.proofs.OutTested.{stands-out}
 use Rattle.marking.proofs.RouteMarked.{route-of-tests, rules-of-route, home-of-route}
 
@@ -90,7 +90,7 @@ given-entry t p c k ws fits r g =
     }
 
 pub order-of-zero : (t : Track) (n : ℕ) (p : Position) (ws : List ℕ) → length ws ≤ n → Laid t p → markEntries n t p ws ≡ 0 → OrderGiven t p (0 ∷ ws)
-unfolding markEntries markEntry
+unfolding markEntriesBy markEntryBy
 order-of-zero t zero p [] fits laid h = given-end t p h
 order-of-zero t zero p (c ∷ ws) fits laid h = absurd (let f : suc (length ws) ≤ 0 = fits in omega arith)
 order-of-zero t (suc n) p [] fits laid h = given-end t p h
@@ -109,7 +109,7 @@ some-words : {t : Track} {p : Position} {c : ℕ} {r : List ℕ} → Route t p c
 some-words (route {vs = vs} s o) h = not-zero (length vs) h
 
 pub zero-of-order : (t : Track) (n : ℕ) {p q : Position} {es : List Entry} → length (planWords es) ≤ n → Laid t p → Retires t p es q → Empty q → markEntries n t p (planWords es) ≡ 0
-unfolding markEntries markEntry planWords
+unfolding markEntriesBy markEntryBy planWords
 zero-of-order t zero {p} fits laid done none = end-of-empty p none
 zero-of-order t (suc n) {p} fits laid done none = end-of-empty p none
 zero-of-order t zero fits laid (next {e = e} {es = es} r rs) none = absurd (let f : suc (suc (length (e .words ++ planWords es))) ≤ 0 = fits in omega arith)

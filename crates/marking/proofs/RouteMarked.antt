@@ -13,12 +13,12 @@ use Rattle.model.specs.Track.{Track, zoneOf, headingOf, leave}
 use Rattle.model.specs.Position.{Position, at}
 use Rattle.rules.specs.Routes.{Onward, arrives, goes, Route, route}
 use Rattle.rules.specs.Key.{steps}
-use Rattle.rules.specs.Sheet.{follow, byRules, endsHome}
+use Rattle.rules.specs.Sheet.{follow, followBy, byRules, byRulesBy, endsHome}
 use Rattle.rules.proofs.StepTested.{step-of-test, test-of-step}
 
 module _ (t : Track) (p : Position) (c : ℕ) where
   pub onward-of-tests : (w : ℕ) (vs : List ℕ) → follow t p c w vs ≡ true → endsHome t (w ∷ vs) ≡ true → Onward t p c w vs
-  unfolding follow endsHome
+  unfolding followBy endsHome
   onward-of-tests w [] f h = arrives (eqb-true (leave t w) (t .home) h)
   onward-of-tests w (v ∷ vs) f h =
       let tail : (steps t p c w v && follow t p c v vs) ≡ true = and-right (ltb v (2 * t .zones)) _ f in
@@ -26,10 +26,10 @@ module _ (t : Track) (p : Position) (c : ℕ) where
       (onward-of-tests v vs (and-right (steps t p c w v) (follow t p c v vs) tail) h)
 
   pub follow-of-onward : {w : ℕ} {vs : List ℕ} → Onward t p c w vs → follow t p c w vs ≡ true
-  unfolding follow
+  unfolding followBy
   follow-of-onward (arrives h) = refl
   follow-of-onward (goes {w = w} {v = v} {vs = vs} s o) =
-      and-both (ltb v (2 * t .zones)) (steps t p c w v && follow t p c v vs) (lt-ltb v (2 * t .zones) (s .word))
+      and-both (ltb v (2 * t .zones)) (steps t p c w v && follow t p c v vs) (lt-ltb v (2 * t .zones) (s .ungated .word))
       (and-both (steps t p c w v) (follow t p c v vs) (test-of-step t p c w v s) (follow-of-onward o))
 
   pub home-of-onward : {w : ℕ} {vs : List ℕ} → Onward t p c w vs → endsHome t (w ∷ vs) ≡ true
@@ -38,7 +38,7 @@ module _ (t : Track) (p : Position) (c : ℕ) where
   home-of-onward (goes s o) = home-of-onward o
 
   pub route-of-tests : length p ≡ t .zones → (c ≡ 0 → ⊥) → (r : List ℕ) → byRules t p c r ≡ true → endsHome t r ≡ true → Route t p c r
-  unfolding byRules
+  unfolding byRulesBy
   route-of-tests each numbered [] b h = absurd (false≢true b)
   route-of-tests each numbered (w ∷ vs) b h =
       let inside : w < 2 * t .zones = ltb-true w (2 * t .zones) (and-left (ltb w (2 * t .zones)) _ b) in
@@ -48,7 +48,7 @@ module _ (t : Track) (p : Position) (c : ℕ) where
       (onward-of-tests w vs (and-right (eqb (at p (zoneOf w)) (2 * c + headingOf w)) (follow t p c w vs) tail) h)
 
   pub rules-of-route : length p ≡ t .zones → {r : List ℕ} → Route t p c r → byRules t p c r ≡ true
-  unfolding byRules
+  unfolding byRulesBy
   rules-of-route each (route {w = w} {vs = vs} s o) =
       let inside : zoneOf w < length p = s .inside in
       let word : w < 2 * t .zones = omega arith in

@@ -18,7 +18,7 @@ use Rattle.model.specs.Position.{Position}
 use Rattle.model.specs.Accepted.{Laid}
 use Rattle.rules.specs.Routes.{Blocked, Empty}
 use Rattle.rules.specs.Key.{planWords, named, run, verdictOf}
-use Rattle.rules.specs.Sheet.{BlockedNamed, Right, sameList, markClaim, markFor}
+use Rattle.rules.specs.Sheet.{BlockedNamed, Right, sameList, markClaim, markClaimBy, markFor, markForBy}
 use Rattle.order.proofs.Named.{named-iff-blocked, named-ascending, named-left, unnamed-iff-ordered}
 use Rattle.order.proofs.KeyRun.{run-retires}
 use Rattle.order.proofs.Verdicts.{verdict-ordered}
@@ -39,7 +39,7 @@ test-of-same (a ∷ l) = and-both (eqb a a) (sameList l l) (eq-eqb a a refl) (te
 
 module _ (t : Track) (p : Position) (laid : Laid t p) where
   claim-of-zero : (ws : List ℕ) → markClaim t p ws ≡ 0 → BlockedNamed t p (1 ∷ ws)
-  unfolding markClaim
+  unfolding markClaimBy
   claim-of-zero [] h = not-zero 34 h
   claim-of-zero (c ∷ cs) h = go (sameList (c ∷ cs) (named t p)) refl h
     where
@@ -56,7 +56,7 @@ module _ (t : Track) (p : Position) (laid : Laid t p) where
       go false e z = not-zero 34 z
 
   zero-of-claim : (list : List ℕ) → (list ≡ [] → ⊥) → list ≡ named t p → markClaim t p list ≡ 0
-  unfolding markClaim
+  unfolding markClaimBy
   zero-of-claim [] some same = absurd (some refl)
   zero-of-claim (c ∷ cs) some same = ap (λ (b : Bool). cond b 0 35) (ap (sameList (c ∷ cs)) (sym same) ∙ test-of-same (c ∷ cs))
 
@@ -67,14 +67,14 @@ module _ (t : Track) (p : Position) (laid : Laid t p) where
       (λ c m. b .blocked c .1 (named-iff-blocked t p laid c .0 m))
 
   pub right-of-zero : (sheet : List ℕ) → markFor t p sheet ≡ 0 → Right t p sheet
-  unfolding markFor
+  unfolding markForBy
   right-of-zero [] h = not-zero 29 h
   right-of-zero (zero ∷ ws) h = inl (order-of-zero t (length ws) p ws (le-refl (length ws)) laid h)
   right-of-zero (suc zero ∷ ws) h = inr (claim-of-zero ws h)
   right-of-zero (suc (suc n) ∷ ws) h = not-zero 29 (rw (ne-eqb (suc (suc n)) 0 (λ e. omega arith), ne-eqb (suc (suc n)) 1 (λ e. omega arith)) at h)
 
   pub zero-of-right : (sheet : List ℕ) → Right t p sheet → markFor t p sheet ≡ 0
-  unfolding markFor
+  unfolding markForBy
   zero-of-right sheet (inl o) =
       rw (o .written) (zero-of-order t (length (planWords (o .entries))) (le-refl _) laid (o .retires) (o .empty))
   zero-of-right sheet (inr b) = rw (b .written) (zero-of-claim (b .list) (b .not-empty) (list-of-blocked b))
@@ -94,5 +94,5 @@ module _ (t : Track) (p : Position) (laid : Laid t p) where
 
   -- the key's list as a claim passes on every other board
   pub key-list-passes : (verdictOf (named t p) ≡ 0 → ⊥) → markFor t p (1 ∷ named t p) ≡ 0
-  unfolding markFor
+  unfolding markForBy
   key-list-passes v = zero-of-claim (named t p) (λ none. v (ap verdictOf none)) refl

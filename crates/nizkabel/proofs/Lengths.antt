@@ -12,7 +12,7 @@ use lib.Dec.{ltb, eqb}
 use Rattle.model.specs.Position.{outs}
 use Rattle.model.specs.Reading.{refusal, trackSaid, positionSaid}
 use Rattle.model.proofs.ReadingLaws.{ready-said}
-use Rattle.rules.specs.Key.{KeyAnswer, turnedBack, keyFor, keyIn, keyOf}
+use Rattle.rules.specs.Key.{KeyAnswer, turnedBack, keyFor, keyForBy, keyInBy, keyOf, keyOfBy}
 use Rattle.rules.specs.Collapse.{CollapseAnswer, left, collapseIn, collapseOf}
 use Rattle.order.proofs.Sizes.{plan-room, named-most}
 use Rattle.blocking.proofs.SameList.{collapse-same}
@@ -22,7 +22,7 @@ use Rattle.board.proofs.ReadBoard.{Bytes}
 module _ (b : List ℕ) where
   -- what holds of what is turned back and of the key of an accepted board holds of every key
   of-key : (P : KeyAnswer → Type 0) → ((n : ℕ) → P (turnedBack n)) → (refusal b ≡ 0 → P (keyFor (trackSaid b) (positionSaid b))) → (planRoom listRoom : ℕ) → P (keyOf b planRoom listRoom)
-  unfolding keyOf keyIn
+  unfolding keyOfBy keyInBy
   of-key P turned drawn planRoom listRoom =
       go (eqb (refusal b) 0) refl (ltb planRoom (length (outs (positionSaid b)) * (2 + 2 * trackSaid b .zones))) (ltb listRoom (length (outs (positionSaid b))))
     where
@@ -44,19 +44,19 @@ module _ (b : List ℕ) where
 
 module _ (b : List ℕ) (small : Bytes b) where
   plan-few : refusal b ≡ 0 → length (keyFor (trackSaid b) (positionSaid b) .plan) ≤ 18624
-  unfolding keyFor
+  unfolding keyForBy
   plan-few none =
       let ready = ready-said b small none in
       le-trans (plan-room (trackSaid b) (positionSaid b) (ready .bounded .laid)) (room-small ready refl)
 
   named-few : refusal b ≡ 0 → length (keyFor (trackSaid b) (positionSaid b) .list) ≤ 96
-  unfolding keyFor
+  unfolding keyForBy
   named-few none =
       let ready = ready-said b small none in
       le-trans (named-most (trackSaid b) (positionSaid b) (ready .bounded .laid)) (few-out ready)
 
   left-few : refusal b ≡ 0 → length (left (trackSaid b) (positionSaid b)) ≤ 96
-  unfolding keyFor
+  unfolding keyForBy
   left-few none = subst (λ (l : List ℕ). length l ≤ 96) (sym (collapse-same (ready-said b small none .bounded .laid))) (named-few none)
 
   pub few-words : (planRoom listRoom : ℕ) → length (keyOf b planRoom listRoom .plan) ≤ 18624

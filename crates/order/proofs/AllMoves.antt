@@ -14,11 +14,13 @@ use Rattle.model.specs.Accepted.{Laid}
 use Rattle.model.proofs.PositionLaws.{out-decided, laid-retire}
 use Rattle.model.proofs.MoveLaws.{moved-laid}
 use Rattle.rules.specs.Tries.{Move, into, home, Allowed, enters, arrives, Moved, Moves}
+use Rattle.rules.specs.Key.{leavesHome}
+use Rattle.rules.proofs.MovesGated.{gate-shut}
 
 module _ {t : Track} where
   -- what a move leaves is laid
   pub allowed-laid : {p q : Position} {m : Move} → Laid t p → Allowed t p m q → Laid t q
-  allowed-laid {p} laid (enters {c} {w} u s word free touches) = moved-laid t p laid c u w s word
+  allowed-laid {p} laid (enters {c} {w} u s elsewhere word free touches) = moved-laid t p laid c u w s word
   allowed-laid {p} laid (arrives {c} u s e) = laid-retire t c p laid
 
   pub moved-keeps-laid : {p q : Position} {m : Move} → Laid t p → Moved t p m q → Laid t q
@@ -31,7 +33,7 @@ module _ {t : Track} where
 
   -- what a move leaves does not turn on where its carrier is found standing
   pub allowed-one : {p q r : Position} {m : Move} → Allowed t p m q → Allowed t p m r → q ≡ r
-  allowed-one (enters u s word free touches) (enters v r w f e) = refl
+  allowed-one (enters u s elsewhere word free touches) (enters v r n w f e) = refl
   allowed-one (arrives u s e) (arrives v r f) = refl
 
   pub moved-one : {p q r : Position} {m : Move} → Moved t p m q → Moved t p m r → q ≡ r
@@ -47,14 +49,14 @@ module _ {t : Track} where
 module _ {t : Track} {p : Position} (laid : Laid t p) where
   -- a move of one who is not out is forbidden
   out-into : {c w : ℕ} {q : Position} → Allowed t p (into c w) q → Out p c
-  out-into (enters u s word free touches) = (u, s)
+  out-into (enters u s elsewhere word free touches) = (u, s)
 
   out-home : {c : ℕ} {q : Position} → Allowed t p (home c) q → Out p c
   out-home (arrives u s e) = (u, s)
 
   -- what the rules ask, of the zone where the carrier stands
   into-asks : {c w u : ℕ} {q : Position} → Stands p c u → Allowed t p (into c w) q → (w < 2 * t .zones) × (at p (zoneOf w) ≡ 0) × (start t w ≡ leave t u)
-  into-asks {c} {u = u} s (enters v r word free touches) = (word, free, touches ∙ ap (leave t) (laid .once c v u r s))
+  into-asks {c} {u = u} s (enters v r elsewhere word free touches) = (word, free, touches ∙ ap (leave t) (laid .once c v u r s))
 
   home-asks : {c u : ℕ} {q : Position} → Stands p c u → Allowed t p (home c) q → leave t u ≡ t .home
   home-asks {c} {u} s (arrives v r e) = ap (leave t) (laid .once c u v s r) ∙ e
@@ -65,8 +67,12 @@ module _ {t : Track} {p : Position} (laid : Laid t p) where
       refuse : ((q : Position) → Allowed t p (into c w) q → ⊥) → (q : Position) × Moved t p (into c w) q
       refuse n = (p, Moved.forbidden n)
 
+      gate : (u : ℕ) → Stands p c u → w < 2 * t .zones → at p (zoneOf w) ≡ 0 → start t w ≡ leave t u → (b : Bool) → leavesHome t u ≡ b → (q : Position) × Moved t p (into c w) q
+      gate u s word free touches true e = refuse (λ q a. gate-shut (laid .once) s (eqb-true _ _ e) a)
+      gate u s word free touches false e = (_, Moved.done (enters u s (eqb-false _ _ e) word free touches))
+
       touch : (u : ℕ) → Stands p c u → w < 2 * t .zones → at p (zoneOf w) ≡ 0 → (b : Bool) → eqb (start t w) (leave t u) ≡ b → (q : Position) × Moved t p (into c w) q
-      touch u s word free true e = (_, Moved.done (enters u s word free (eqb-true _ _ e)))
+      touch u s word free true e = gate u s word free (eqb-true _ _ e) (leavesHome t u) refl
       touch u s word free false e = refuse (λ q a. eqb-false _ _ e (into-asks s a .2))
 
       enter : (u : ℕ) → Stands p c u → w < 2 * t .zones → (b : Bool) → eqb (at p (zoneOf w)) 0 ≡ b → (q : Position) × Moved t p (into c w) q

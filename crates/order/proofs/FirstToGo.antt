@@ -10,7 +10,7 @@ use Rattle.model.specs.Lists.{Ascending}
 use Rattle.model.specs.Track.{Track}
 use Rattle.model.specs.Position.{Position}
 use Rattle.rules.specs.Routes.{Entry}
-use Rattle.rules.specs.Key.{leastRoute, goesElse, firstToGo}
+use Rattle.rules.specs.Key.{leastRoute, goesElse, firstToGo, firstToGoBy}
 
 -- what the first that can go is
 pub record First (t : Track) (p : Position) (cs : List ℕ) (e : Entry) : Type 0 where
@@ -20,7 +20,7 @@ pub record First (t : Track) (p : Position) (cs : List ℕ) (e : Entry) : Type 0
 
 module _ (t : Track) (p : Position) where
   pub first-to-go : (cs : List ℕ) {e : Entry} → Ascending cs → firstToGo t p cs ≡ some e → First t p cs e
-  unfolding firstToGo
+  unfolding firstToGoBy
   first-to-go [] asc f = absurd (let z : _≡_ {A = ℕ} 0 1 = cc in omega arith)
   first-to-go (c ∷ cs) {e} asc f = go (leastRoute t p c) refl f (first-to-go cs (asc .1))
     where
@@ -42,7 +42,7 @@ module _ (t : Track) (p : Position) where
           record { among = List·Memᴰ·tail (r .among); goes = r .goes; lower = λ d m l. tail r q d (List·Memᴰ·cases-cons m) l }
 
   pub none-to-go : (cs : List ℕ) → firstToGo t p cs ≡ none → (d : ℕ) → List·Memᴰ d cs → leastRoute t p d ≡ none
-  unfolding firstToGo
+  unfolding firstToGoBy
   none-to-go [] f d m = absurd (List·Memᴰ·not-nil m)
   none-to-go (c ∷ cs) f d m = go (leastRoute t p c) refl f (λ f m. none-to-go cs f d m)
     where

@@ -11,9 +11,9 @@ use Rattle.model.specs.Track.{Track}
 use Rattle.model.specs.Position.{Position, Out, retire, outs}
 use Rattle.model.specs.Accepted.{Laid}
 use Rattle.model.proofs.PositionLaws.{mem-outs, outs-mem, outs-ascending, outs-retire-length, laid-retire}
-use Rattle.rules.specs.Routes.{Entry, Retires}
+use Rattle.rules.specs.Routes.{RetiresBy, Entry, Retires}
 use Rattle.rules.specs.Tries.{CanGo, NoneCanGo}
-use Rattle.rules.specs.Key.{leastRoute, firstToGo, runOn, runFor, run}
+use Rattle.rules.specs.Key.{leastRoute, firstToGo, runOn, runFor, runForBy, run, runBy}
 use Rattle.order.specs.LowestFirst.{LowestFirst, ended, leaves}
 use Rattle.order.proofs.Within.{laid-within}
 use Rattle.order.proofs.LastPosition.{goer-out, within-retires}
@@ -22,8 +22,8 @@ use Rattle.order.proofs.FirstToGo.{First, first-to-go, none-to-go}
 
 -- the order holds a sequence of retirements, and none can go after it
 pub lowest-retires : {t : Track} {p q : Position} {es : List Entry} → LowestFirst t p es q → Retires t p es q
-lowest-retires (ended n) = Retires.done
-lowest-retires (leaves l r rest) = Retires.next (r .goes) (lowest-retires rest)
+lowest-retires (ended n) = RetiresBy.done
+lowest-retires (leaves l r rest) = RetiresBy.next (r .goes) (lowest-retires rest)
 
 pub lowest-ends : {t : Track} {p q : Position} {es : List Entry} → LowestFirst t p es q → NoneCanGo t q
 lowest-ends (ended n) = n
@@ -45,7 +45,7 @@ out-counted p {c} o = go (outs p) (outs-mem p o)
 
 module _ (t : Track) where
   run-for-lowest : (n : ℕ) (p : Position) → Laid t p → length (outs p) ≤ n → LowestFirst t p (runFor n t p .plan) (runFor n t p .last)
-  unfolding runFor
+  unfolding runForBy
   run-for-lowest zero p laid few = ended (λ c g. let k : 0 < length (outs p) = out-counted p (goer-out (g .1)) in omega arith)
   run-for-lowest (suc n) p laid few = go (firstToGo t p (outs p)) refl (run-for-lowest n)
     where
@@ -61,7 +61,7 @@ module _ (t : Track) where
 
   module _ (p : Position) (laid : Laid t p) where
     pub run-lowest : LowestFirst t p (run t p .plan) (run t p .last)
-    unfolding run
+    unfolding runBy
     run-lowest = run-for-lowest (length (outs p)) p laid (le-refl _)
 
     pub run-retires : Retires t p (run t p .plan) (run t p .last)

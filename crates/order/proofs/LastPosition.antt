@@ -5,7 +5,7 @@ use mathlib.Core.Path.{_≡_}
 use mathlib.Core.List.{List, map}
 use Rattle.model.specs.Track.{Track}
 use Rattle.model.specs.Position.{Position, Out, Once}
-use Rattle.rules.specs.Routes.{Route, route, Entry, Retires}
+use Rattle.rules.specs.Routes.{RetiresBy, Route, route, Entry, Retires}
 use Rattle.rules.specs.Tries.{NoneCanGo, Try, went, refused, Tries}
 use Rattle.order.proofs.Within.{Within, within-self, within-trans, route-within, once-within}
 use Rattle.order.proofs.Fewer.{within-retire, within-retired}
@@ -27,13 +27,13 @@ within-tries {p = p} Tries.untried = within-self p
 within-tries (Tries.more y ts) = within-trans (within-tries ts) (within-try y)
 
 pub within-retires : {t : Track} {p q : Position} {es : List Entry} → Retires t p es q → Within q p
-within-retires {p = p} Retires.done = within-self p
-within-retires {p = p} (Retires.next {e = e} r rs) = within-trans (within-retires rs) (within-retired (e .carrier) p)
+within-retires {p = p} RetiresBy.done = within-self p
+within-retires {p = p} (RetiresBy.next {e = e} r rs) = within-trans (within-retires rs) (within-retired (e .carrier) p)
 
 -- a sequence of retirements is a list of tries, none of them refused
 pub tries-of-retires : {t : Track} {p q : Position} {es : List Entry} → Retires t p es q → Tries t p (map (λ e. e .carrier) es) q
-tries-of-retires Retires.done = Tries.untried
-tries-of-retires (Retires.next {e = e} r rs) = Tries.more (went (e .words, r)) (tries-of-retires rs)
+tries-of-retires RetiresBy.done = Tries.untried
+tries-of-retires (RetiresBy.next {e = e} r rs) = Tries.more (went (e .words, r)) (tries-of-retires rs)
 
 module _ {t : Track} {last : Position} (ended : NoneCanGo t last) where
   -- who can go is not out in a last position within, since it could go there too by the same route

@@ -15,10 +15,10 @@ use Rattle.model.specs.Track.{Track}
 use Rattle.model.specs.Position.{Position, at, Stands, Out, Once}
 use Rattle.model.specs.Accepted.{Laid}
 use Rattle.model.proofs.PositionLaws.{stands-word, stands-below}
-use Rattle.rules.specs.Routes.{Onward, Route, route}
+use Rattle.rules.specs.Routes.{OnwardBy, Onward, Route, route}
 use Rattle.rules.specs.Search.{leastFrom}
 use Rattle.rules.specs.Tries.{CanGo}
-use Rattle.rules.specs.Key.{nexts, leavesHome, zoneFor, routeFrom, leastRoute}
+use Rattle.rules.specs.Key.{nexts, leavesHome, zoneFor, routeFrom, leastRoute, leastRouteBy}
 use Rattle.least.specs.Ways.{Way, Before, differs, later}
 use Rattle.least.proofs.LeastWay.{least-sound, least-shortest, least-smallest, least-exists}
 use Rattle.order.specs.LowestFirst.{Least}
@@ -27,19 +27,19 @@ use Rattle.order.proofs.Standing.{zone-stands, stands-zone}
 use Rattle.order.proofs.LastPosition.{goer-numbered}
 
 pub onward-way : {t : Track} {p : Position} {c w : ℕ} {vs : List ℕ} → Onward t p c w vs → Way (nexts t p c) (leavesHome t) w vs
-onward-way (Onward.arrives e) = Way.ends (eq-eqb _ _ e)
-onward-way {t} {p} {c} {w} (Onward.goes {v = v} s o) = Way.goes (step-nexts t p c w v s) (onward-way o)
+onward-way (OnwardBy.arrives e) = Way.ends (eq-eqb _ _ e)
+onward-way {t} {p} {c} {w} (OnwardBy.goes {v = v} s o) = Way.goes (step-nexts t p c w v s) (onward-way o)
 
 pub way-onward : {t : Track} {p : Position} {c w : ℕ} {vs : List ℕ} → Way (nexts t p c) (leavesHome t) w vs → Onward t p c w vs
-way-onward (Way.ends e) = Onward.arrives (eqb-true _ _ e)
-way-onward {t} {p} {c} {w} (Way.goes {v = v} m y) = Onward.goes (nexts-step t p c w v m) (way-onward y)
+way-onward (Way.ends e) = OnwardBy.arrives (eqb-true _ _ e)
+way-onward {t} {p} {c} {w} (Way.goes {v = v} m y) = OnwardBy.goes (nexts-step t p c w v m) (way-onward y)
 
 pub onward-iff-way : (t : Track) (p : Position) (c w : ℕ) (vs : List ℕ) → Onward t p c w vs ↔ Way (nexts t p c) (leavesHome t) w vs
 onward-iff-way t p c w vs = (onward-way, way-onward)
 
 -- the search starts at the standing
 pub least-at : (t : Track) {p : Position} {c w : ℕ} → Once p → Stands p c w → leastRoute t p c ≡ leastFrom (nexts t p c) (leavesHome t) (2 * t .zones) w
-unfolding leastRoute
+unfolding leastRouteBy
 least-at t {p} {c} {w} once s =
     ap (routeFrom t p c) (stands-zone once s) ∙ ap (leastFrom (nexts t p c) (leavesHome t) (2 * t .zones)) (stands-word s)
 
@@ -50,7 +50,7 @@ route-least-exists {t} {p} {c} laid (_, route {w = w} s o) =
 
 -- where a least route is found, its carrier is out
 least-out : (t : Track) (p : Position) (c : ℕ) {r : List ℕ} → (c ≡ 0 → ⊥) → leastRoute t p c ≡ some r → Out p c
-unfolding leastRoute
+unfolding leastRouteBy
 least-out t p c {r} numbered e = go (zoneFor p c) refl e
   where
     go : (o : Option ℕ) → zoneFor p c ≡ o → routeFrom t p c o ≡ some r → Out p c

@@ -10,13 +10,13 @@ use Rattle.model.specs.Track.{Track}
 use Rattle.model.specs.Position.{Position, at, Stands, Out}
 use Rattle.model.specs.Accepted.{Laid}
 use Rattle.model.proofs.PositionLaws.{mem-outs, outs-mem, outs-ascending}
-use Rattle.rules.specs.Routes.{Ordered, Blocked}
+use Rattle.rules.specs.Routes.{Ordered, Blocked, leaving}
 use Rattle.rules.specs.Tries.{Tries, NoneCanGo}
-use Rattle.rules.specs.Key.{run, named}
+use Rattle.rules.specs.Key.{run, named, namedBy}
 use Rattle.order.proofs.Within.{Within, stands-before, laid-within, once-within}
 use Rattle.order.proofs.LastPosition.{within-tries, within-retires, tries-of-retires, stays-tries, within-last}
 use Rattle.order.proofs.KeyRun.{run-retires, run-ends}
-use Rattle.order.proofs.Retired.{leaving, leaves-or-out, left-not-leaving}
+use Rattle.order.proofs.Retired.{leaves-or-out, left-not-leaving}
 
 -- two positions each within the other are one
 within-both : {q p : Position} → Within q p → Within p q → q ≡ p
@@ -39,7 +39,7 @@ pub tries-stood : {t : Track} {p q : Position} {cs : List ℕ} {c w : ℕ} → T
 tries-stood ts s = stands-before (within-tries ts) s
 
 pub named-left : (t : Track) (p : Position) {c : ℕ} → List·Memᴰ c (named t p) ↔ Out (run t p .last) c
-unfolding named
+unfolding namedBy
 named-left t p = (λ m. mem-outs (run t p .last) m, λ o. outs-mem (run t p .last) o)
 
 module _ (t : Track) (p : Position) (laid : Laid t p) where
@@ -48,7 +48,7 @@ module _ (t : Track) (p : Position) (laid : Laid t p) where
   last-within = within-retires (run-retires t p laid)
 
   pub named-ascending : Ascending (named t p)
-  unfolding named
+  unfolding namedBy
   named-ascending = outs-ascending (run t p .last) (once-within last-within (laid .once))
 
   pub named-out : {c : ℕ} → List·Memᴰ c (named t p) → Out p c

@@ -2,7 +2,7 @@
 -- By induction over the sequence.
 use Prim.Native.Nat.{ℕ, _+_}
 use mathlib.Core.Path.{_≡_, refl, sym}
-use mathlib.Core.List.{List, _∷_, map, List·Memᴰ, List·Memᴰ·head, List·Memᴰ·tail, List·Memᴰ·cases-cons, List·Memᴰ·not-nil}
+use mathlib.Core.List.{List, _∷_, List·Memᴰ, List·Memᴰ·head, List·Memᴰ·tail, List·Memᴰ·cases-cons, List·Memᴰ·not-nil}
 use mathlib.Core.Bool.{Bool, true, false}
 use mathlib.Core.Logic.{_⊎_, inl, inr}
 use native.Mathlib.Omega.{arith}
@@ -13,15 +13,11 @@ use Rattle.model.specs.Track.{Track}
 use Rattle.model.specs.Position.{Position, Stands, Out, Once, retire, outs}
 use Rattle.model.proofs.AscendingLaws.{NoRepeats}
 use Rattle.model.proofs.PositionLaws.{stands-retire, retire-stands, once-retire, outs-retire-length}
-use Rattle.rules.specs.Routes.{Entry, Retires, done, next}
+use Rattle.rules.specs.Routes.{Entry, leaving, Retires, done, next}
 use Rattle.rules.specs.Tries.{NoneCanGo}
 use Rattle.order.proofs.Within.{Within}
 use Rattle.order.proofs.Fewer.{within-retire}
 use Rattle.order.proofs.LastPosition.{goer-numbered, goer-out, goer-not-left}
-
--- the carriers that leave, in turn
-abbrev pub leaving : List Entry → List ℕ
-leaving es = map (λ e. e .carrier) es
 
 module _ {t : Track} where
   pub leaving-out : {p q : Position} {es : List Entry} {c : ℕ} → Retires t p es q → List·Memᴰ c (leaving es) → Out p c

@@ -12,13 +12,13 @@ use Rattle.model.specs.Position.{Position, Out, outs}
 use Rattle.model.specs.Accepted.{Laid}
 use Rattle.model.proofs.AscendingLaws.{NoRepeats}
 use Rattle.model.proofs.PositionLaws.{stands-below, laid-retire}
-use Rattle.rules.specs.Routes.{Onward, Route, route, Entry}
-use Rattle.rules.specs.Key.{run, named, planWords}
+use Rattle.rules.specs.Routes.{OnwardBy, Onward, Route, route, Entry, leaving}
+use Rattle.rules.specs.Key.{run, named, namedBy, planWords}
 use Rattle.order.specs.LowestFirst.{Least, LowestFirst, ended, leaves}
 use Rattle.order.proofs.LastPosition.{goer-numbered}
 use Rattle.order.proofs.LeastRoute.{route-least-exists, route-least-sound}
 use Rattle.order.proofs.KeyRun.{run-lowest, run-retires}
-use Rattle.order.proofs.Retired.{leaving, leaving-out, leaves-or-out, leaving-once, leaving-count}
+use Rattle.order.proofs.Retired.{leaving-out, leaves-or-out, leaving-once, leaving-count}
 use Rattle.order.proofs.Named.{named-left, named-blocked}
 
 module _ {t : Track} where
@@ -30,11 +30,11 @@ module _ {t : Track} where
       le-trans (l .fewest (f .0) (s .0)) (s .1)
 
   onward-below : {p : Position} {c w v : ℕ} {vs : List ℕ} → Onward t p c w vs → List·Memᴰ v vs → v < 2 * t .zones
-  onward-below (Onward.arrives e) m = absurd (List·Memᴰ·not-nil m)
-  onward-below {v = v} (Onward.goes {v = u} {vs = us} s o) m = go (List·Memᴰ·cases-cons m) (λ k. onward-below o k)
+  onward-below (OnwardBy.arrives e) m = absurd (List·Memᴰ·not-nil m)
+  onward-below {v = v} (OnwardBy.goes {v = u} {vs = us} s o) m = go (List·Memᴰ·cases-cons m) (λ k. onward-below o k)
     where
       go : (v ≡ u) ⊎ List·Memᴰ v us → (List·Memᴰ v us → v < 2 * t .zones) → v < 2 * t .zones
-      go (inl e) ih = rw e (s .word)
+      go (inl e) ih = rw e (s .ungated .word)
       go (inr k) ih = ih k
 
   -- every word of a route is a word of the track
@@ -78,7 +78,7 @@ module _ (t : Track) (p : Position) (laid : Laid t p) where
 
   -- each carrier out is in the plan or named
   pub plan-and-named : length (run t p .plan) + length (named t p) ≡ length (outs p)
-  unfolding named
+  unfolding namedBy
   plan-and-named = leaving-count (laid .once) (run-retires t p laid)
 
   pub plan-entries : length (run t p .plan) ≤ length (outs p)

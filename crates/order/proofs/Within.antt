@@ -10,7 +10,7 @@ use lib.ListN.{length}
 use Rattle.model.specs.Track.{Track, zoneOf, headingOf}
 use Rattle.model.specs.Position.{Position, at, carrierOf, Stands, Out, Once, without}
 use Rattle.model.specs.Accepted.{Laid}
-use Rattle.rules.specs.Routes.{Step, Onward, Route, arrives, goes, route}
+use Rattle.rules.specs.Routes.{UngatedStep, Step, Onward, Route, arrives, goes, route}
 use Rattle.model.proofs.PositionLaws.{at-without-gone, at-without-kept, length-without}
 
 pub record Within (q p : Position) : Type 0 where
@@ -51,8 +51,11 @@ clear-within {q} {p} c z a h = go (a .kept z) h
     go (inl e) (inl f) = inl (e ∙ f)
     go (inl e) (inr f) = inr (ap carrierOf e ∙ f)
 
+ungated-within : {t : Track} {q p : Position} {c w v : ℕ} → Within q p → UngatedStep t p c w v → UngatedStep t q c w v
+ungated-within {c = c} {v = v} a s = record { word = s .word; touches = s .touches; another = s .another; clear = clear-within c (zoneOf v) a (s .clear) }
+
 pub step-within : {t : Track} {q p : Position} {c w v : ℕ} → Within q p → Step t p c w v → Step t q c w v
-step-within {c = c} {v = v} a s = record { word = s .word; touches = s .touches; another = s .another; clear = clear-within c (zoneOf v) a (s .clear) }
+step-within a s = record { ungated = ungated-within a (s .ungated); gate = s .gate }
 
 pub onward-within : {t : Track} {q p : Position} {c w : ℕ} {vs : List ℕ} → Within q p → Onward t p c w vs → Onward t q c w vs
 onward-within a (arrives e) = arrives e

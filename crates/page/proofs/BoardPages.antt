@@ -8,16 +8,16 @@ use Rattle.model.specs.Reading.{refusal, tooShort, wrongLength, wrongVersion, o
 use Rattle.rules.specs.Search.{leastFrom, wordsTo, goalIn}
 use Rattle.rules.specs.Starred.{boardT}
 use Rattle.rules.specs.Table.{boardK}
-use Rattle.rules.specs.Key.{named, run, runFor, firstToGo, leastRoute, zoneFor, nexts}
+use Rattle.rules.specs.Key.{namedBy, runBy, runForBy, firstToGoBy, leastRouteBy, zoneFor, nextsBy}
 use Rattle.page.specs.Page.{spelled, digitsOf, decimal, wordText, spaced, entryLine, entryLines, blockedText, firstLines, keyPage, refusedPage, pageFor, pageOf}
 
 pub page-of-K : pageOf boardK ≡ spelled "board 2 points 2 zones 1 out\nverdict 0\nhome 7: 0+ 1-\nblocked none\n"
-unfolding boardK boardT pageOf pageFor refusedPage keyPage firstLines blockedText entryLines entryLine spaced wordText decimal digitsOf named run runFor firstToGo leastRoute zoneFor nexts leastFrom wordsTo goalIn parts joinZones joinPoints refusal tooShort wrongLength wrongVersion outOfRange wrongCount badZone repeated underTwo apart trackSaid positionSaid
+unfolding boardK boardT pageOf pageFor refusedPage keyPage firstLines blockedText entryLines entryLine spaced wordText decimal digitsOf namedBy runBy runForBy firstToGoBy leastRouteBy zoneFor nextsBy leastFrom wordsTo goalIn parts joinZones joinPoints refusal tooShort wrongLength wrongVersion outOfRange wrongCount badZone repeated underTwo apart trackSaid positionSaid
 page-of-K = refl
 
 -- board T with carriers 7 and 109, both heading 0
 pub page-of-blocked : pageOf (boardT 7 0 109 0) ≡ spelled "board 2 points 2 zones 2 out\nverdict 20\nblocked 7 109\n"
-unfolding boardT pageOf pageFor refusedPage keyPage firstLines blockedText entryLines entryLine spaced wordText decimal digitsOf named run runFor firstToGo leastRoute zoneFor nexts leastFrom wordsTo goalIn parts joinZones joinPoints refusal tooShort wrongLength wrongVersion outOfRange wrongCount badZone repeated underTwo apart trackSaid positionSaid
+unfolding boardT pageOf pageFor refusedPage keyPage firstLines blockedText entryLines entryLine spaced wordText decimal digitsOf namedBy runBy runForBy firstToGoBy leastRouteBy zoneFor nextsBy leastFrom wordsTo goalIn parts joinZones joinPoints refusal tooShort wrongLength wrongVersion outOfRange wrongCount badZone repeated underTwo apart trackSaid positionSaid
 page-of-blocked = refl
 
 pub page-of-refused : pageOf (0x00 ∷ 0x0C ∷ 0x01 ∷ []) ≡ spelled "refused 1\n"

@@ -1,4 +1,5 @@
--- An offering of the words that come after a word and may still be entered is the offering of the next words of the step rule, and the arrays are a queue again.
+-- An offering of the words that come after a word and may still be entered is the offering of the next words of the older rule, which no home gate
+-- shuts, and the arrays are a queue again.
 -- What comes after on the track, may be entered and is not in the queue is what the table and the set have in common.
 use Prim.Native.Nat.{ℕ, _+_, _-_, _*_, _≤_, _<_}
 use mathlib.Core.Path.{_≡_, refl, sym, _∙_, ap, ap₂}
@@ -15,7 +16,7 @@ use Rattle.model.proofs.BoolLaws.{same-test}
 use Rattle.model.proofs.ListLaws.{mem-below, below-mem, mem-countUp, countUp-append, mem-keep, keep-mem, keep-append, keep-ext, keep-none, any-true, true-any, any-append}
 use Rattle.model.proofs.CountLaws.{how-many-below, how-many-below-ext, how-many-either}
 use Rattle.model.proofs.PlaceLaws.{getD-mem, getD-map}
-use Rattle.rules.specs.Key.{mayEnter, steps, nexts}
+use Rattle.rules.specs.Key.{mayEnter, ungatedSteps, nextsBy}
 use Rattle.least.specs.Queue.{offerAll}
 use Rattle.queue.specs.WordSets.{inSet}
 use Rattle.queue.specs.Follows.{BoardTable, inRow, comesAfter}
@@ -78,7 +79,7 @@ module _ {zones : ℕ} {ends p follows : List ℕ} (t : BoardTable zones ends p 
 
   -- a next word that is not in the queue
   abbrev new : ℕ → Bool
-  new v = steps (zonesOnly zones ends) p c last v && not (seen v)
+  new v = ungatedSteps (zonesOnly zones ends) p c last v && not (seen v)
 
   abbrev next : List ℕ
   next = enterableAfter follows last enterable
@@ -119,7 +120,7 @@ module _ {zones : ℕ} {ends p follows : List ℕ} (t : BoardTable zones ends p 
 
   counts : howMany (λ v. seen v || new v) (numbersBelow m) ≡ found + length next
   counts =
-      how-many-either seen new (numbersBelow m) (λ v. never-both (seen v) (steps (zonesOnly zones ends) p c last v)) ∙
+      how-many-either seen new (numbersBelow m) (λ v. never-both (seen v) (ungatedSteps (zonesOnly zones ends) p c last v)) ∙
       ap₂ (λ (a b : ℕ). a + b) (q .counted) (ap length next-is)
 
   most : found + length next ≤ m
@@ -141,12 +142,12 @@ module _ {zones : ℕ} {ends p follows : List ℕ} (t : BoardTable zones ends p 
     to-end : found + length (map (λ v. i) next) ≡ r
     to-end = ap (λ (k : ℕ). found + k) (length-map next (λ v. i)) ∙ sym (o .stored .longer)
 
-    pub offered-queue : queueIn words′ froms′ r ≡ offerAll i (queueIn words froms found) (nexts (zonesOnly zones ends) p c last)
-    unfolding nexts
+    pub offered-queue : queueIn words′ froms′ r ≡ offerAll i (queueIn words froms found) (nextsBy ungatedSteps (zonesOnly zones ends) p c last)
+    unfolding nextsBy
     offered-queue =
         ap₂ (λ (a b : List ℕ). record { words = a; froms = b }) (ap (λ (k : ℕ). take k words′) (o .stored .longer) ∙ words-taken) (ap (λ (k : ℕ). take k froms′) (sym to-end) ∙ froms-taken) ∙
         ap (λ (l : List ℕ). record { words = take found words ++ l; froms = take found froms ++ map (λ v. i) l }) (sym next-is) ∙
-        sym (offer-row (steps (zonesOnly zones ends) p c last) i 0 m (queueIn words froms found))
+        sym (offer-row (ungatedSteps (zonesOnly zones ends) p c last) i 0 m (queueIn words froms found))
 
     pub offered-queued : length words′ ≡ length words → length froms′ ≡ length froms → length enterable′ ≡ length enterable → Queued m p c words′ froms′ enterable′ r
     offered-queued a b d = record {

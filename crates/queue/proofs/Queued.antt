@@ -13,7 +13,7 @@ use Rattle.rules.specs.Key.{mayEnter}
 use Rattle.least.specs.Queue.{Queue}
 use Rattle.queue.specs.WordSets.{inSet}
 
--- the zones of a track: all that the step rule reads of it
+-- the zones of a track: all that the ungated step rule reads of it
 abbrev pub zonesOnly : ℕ → List ℕ → Track
 zonesOnly zones ends = record { points = 0; home = 0; zones = zones; ends = ends }
 

@@ -1,5 +1,7 @@
 pub mod RowsHold
-pub mod TurnEmptied
+pub mod BoardMoves
 pub mod StepTested
+pub mod StepsAfter
 pub mod MoveElsewhere
+pub mod MovesGated
 pub mod OutTested

@@ -1,4 +1,4 @@
--- Every row of the three tables holds: the starred boards, the table of verdicts, the boards with turning loops.
+-- Every row of the four tables holds: the starred boards, the table of verdicts, the boards with turning loops, the home gate.
 -- The definitions compute: one `refl` for a whole table. So many rows stand in each, lest an empty table hold.
 use mathlib.Core.List.{flatten}
 use mathlib.Core.Path.{_≡_, refl}
@@ -6,7 +6,8 @@ use lib.ListN.{length}
 use Rattle.rules.specs.Rows.{Hold, given}
 use Rattle.rules.specs.Starred.{boardT, turnWith, farLoop, starred}
 use Rattle.rules.specs.Table.{table, headed, boardK, zonesFree}
-use Rattle.rules.specs.TurningLoops.{turningLoops}
+use Rattle.rules.specs.TurningLoops.{loopAtHome, turningLoops}
+use Rattle.rules.specs.HomeGate.{nearHome, otherHome, homeGate}
 
 pub starred-rows : length starred ≡ 10
 unfolding starred
@@ -16,7 +17,7 @@ pub starred-hold : Hold starred
 unfolding starred boardT turnWith farLoop given
 starred-hold = refl
 
-pub table-rows : length table ≡ 47
+pub table-rows : length table ≡ 46
 unfolding table
 table-rows = refl
 
@@ -29,5 +30,13 @@ unfolding turningLoops
 loops-rows = refl
 
 pub loops-hold : Hold turningLoops
-unfolding turningLoops flatten given
+unfolding turningLoops loopAtHome flatten given
 loops-hold = refl
+
+pub gate-rows : length homeGate ≡ 16
+unfolding homeGate
+gate-rows = refl
+
+pub gate-holds : Hold homeGate
+unfolding homeGate nearHome otherHome loopAtHome boardK boardT flatten given
+gate-holds = refl

@@ -8,3 +8,4 @@ pub mod Rows
 pub mod Starred
 pub mod Table
 pub mod TurningLoops
+pub mod HomeGate

@@ -72,8 +72,7 @@ table =
     onSheet boardK (0 ∷ []) 34 ∷
     onSheet boardK (1 ∷ 7 ∷ []) 35 ∷
     onSheet boardK (1 ∷ []) 35 ∷
-    -- right sheets: through home and on, back through the own zone; another order than the key's; the true list
-    onSheet boardK (0 ∷ 7 ∷ 4 ∷ 0 ∷ 3 ∷ 0 ∷ 3 ∷ []) 0 ∷
+    -- right sheets: another order than the key's; the true list
     onSheet (boardT 7 1 9 1) (0 ∷ 9 ∷ 1 ∷ 3 ∷ 7 ∷ 1 ∷ 1 ∷ []) 0 ∷
     onSheet (boardT 7 0 9 0) (1 ∷ 7 ∷ 9 ∷ []) 0 ∷
     onSheet (boardT 7 0 9 0) (1 ∷ 9 ∷ 7 ∷ []) 35 ∷

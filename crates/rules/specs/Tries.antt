@@ -5,11 +5,14 @@ use mathlib.Core.Path.{_≡_}
 use lib.ListN.{set}
 use Rattle.model.specs.Track.{Track, zoneOf, headingOf, start, leave}
 use Rattle.model.specs.Position.{Position, at, Stands, retire}
-use Rattle.rules.specs.Routes.{Route}
+use Rattle.rules.specs.Routes.{LeavesElsewhere, Step, StepRule, RouteBy}
 
--- carrier c can go home while the others out stand still
+-- carrier c can go home while the others out stand still: by any rule for one step, and by the moving rule
+abbrev pub CanGoBy : StepRule → Track → Position → ℕ → Type 0
+CanGoBy step t p c = (r : List ℕ) × RouteBy step t p c r
+
 abbrev pub CanGo : Track → Position → ℕ → Type 0
-CanGo t p c = (r : List ℕ) × Route t p c r
+CanGo = CanGoBy Step
 
 -- a try names a carrier: it goes home and its zone is free, or it is refused and nothing changes
 pub data Try (t : Track) (p : Position) (c : ℕ) : Position → Type 0 where
@@ -29,10 +32,19 @@ pub data Move : Type 0 where
   into : ℕ → ℕ → Move
   home : ℕ → Move
 
--- what a move that the rules allow leaves; a move with no case here is forbidden
-pub data Allowed (t : Track) (p : Position) : Move → Position → Type 0 where
-  enters : {c w : ℕ} (u : ℕ) → Stands p c u → w < 2 * t .zones → at p (zoneOf w) ≡ 0 → start t w ≡ leave t u → Allowed t p (into c w) (set (retire c p) (zoneOf w) (2 * c + headingOf w))
-  arrives : {c : ℕ} (u : ℕ) → Stands p c u → leave t u ≡ t .home → Allowed t p (home c) (retire c p)
+-- what a move that the rules allow leaves, where `asked` must hold of the word that a carrier goes on from into another; a move with no case here
+-- is forbidden
+pub data AllowedFrom (asked : Track → ℕ → Type 0) (t : Track) (p : Position) : Move → Position → Type 0 where
+  enters : {c w : ℕ} (u : ℕ) → Stands p c u → asked t u → w < 2 * t .zones → at p (zoneOf w) ≡ 0 → start t w ≡ leave t u → AllowedFrom asked t p (into c w) (set (retire c p) (zoneOf w) (2 * c + headingOf w))
+  arrives : {c : ℕ} (u : ℕ) → Stands p c u → leave t u ≡ t .home → AllowedFrom asked t p (home c) (retire c p)
+
+-- the home gate: a carrier heading for the home point goes only into home
+abbrev pub Allowed : Track → Position → Move → Position → Type 0
+Allowed = AllowedFrom LeavesElsewhere
+
+-- by the older rule nothing is asked
+abbrev pub UngatedAllowed : Track → Position → Move → Position → Type 0
+UngatedAllowed = AllowedFrom (λ t u. Unit {0})
 
 -- a move: as the rules allow, or forbidden, and nothing changes
 pub data Moved (t : Track) (p : Position) (m : Move) : Position → Type 0 where

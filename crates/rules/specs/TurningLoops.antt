@@ -24,6 +24,10 @@ lastOfT last = laidOut 2 (free 0 1 ∷ last ∷ [])
 abbrev toLoop : List ℕ → List ℕ
 toLoop last = laidOut 2 (zone 0 1 5 0 ∷ last ∷ [])
 
+-- carrier 5 stands in a turning loop at home, heading 1
+unfoldable pub loopAtHome : List ℕ
+loopAtHome = laidOut 2 (free 0 1 ∷ free 0 1 ∷ zone 0 0 5 1 ∷ [])
+
 unfoldable pub turningLoops : List Row
 turningLoops =
     -- equal ends are no part of row 6, whose other parts stand
@@ -44,7 +48,7 @@ turningLoops =
     acceptedBoard (lastOfT (zone 1 1 6 0)) 0 (6 ∷ 2 ∷ 2 ∷ 1 ∷ []) [] ∷
     acceptedBoard (lastOfT (zone 1 1 6 1)) 0 (6 ∷ 2 ∷ 3 ∷ 1 ∷ []) [] ∷
     -- at home
-    acceptedBoard (laidOut 2 (free 0 1 ∷ free 0 1 ∷ zone 0 0 5 1 ∷ [])) 0 (5 ∷ 1 ∷ 5 ∷ []) [] ∷
+    acceptedBoard loopAtHome 0 (5 ∷ 1 ∷ 5 ∷ []) [] ∷
     acceptedBoard (laidOut 2 (zone 0 1 7 0 ∷ zone 0 1 9 0 ∷ free 0 0 ∷ [])) 20 [] (7 ∷ 9 ∷ []) ∷
     -- beside a held zone, beside a held loop, and behind a held zone: joining isn't done again for who heads into what was joined
     acceptedBoard (laidOut 2 (zone 0 1 5 0 ∷ zone 0 1 6 0 ∷ free 1 1 ∷ [])) 0 (5 ∷ 3 ∷ 0 ∷ 4 ∷ 1 ∷ 6 ∷ 2 ∷ 2 ∷ 1 ∷ []) [] ∷

@@ -9,11 +9,11 @@ use lib.ListN.{length}
 use Rattle.model.specs.Track.{Track}
 use Rattle.model.specs.Position.{Position, retire, outs}
 use Rattle.rules.specs.Routes.{Entry}
-use Rattle.rules.specs.Key.{firstToGo, runOn, runFor, run}
+use Rattle.rules.specs.Key.{firstToGo, runOn, runFor, runForBy, run, runBy}
 
 module _ (t : Track) (p : Position) where
   pub run-none : firstToGo t p (outs p) ≡ none → run t p ≡ record { plan = []; last = p }
-  unfolding run runFor
+  unfolding runBy runForBy
   run-none e = go (length (outs p))
     where
       go : (n : ℕ) → runFor n t p ≡ record { plan = []; last = p }
@@ -21,12 +21,12 @@ module _ (t : Track) (p : Position) where
       go (suc n) = ap (λ (o : Option Entry). runOn p o (λ e. runFor n t (retire (e .carrier) p))) e
 
   pub run-out : length (outs p) ≡ 0 → run t p ≡ record { plan = []; last = p }
-  unfolding run runFor
+  unfolding runBy runForBy
   run-out e = ap (λ (n : ℕ). runFor n t p) e
 
   pub run-step : {e : Entry} → firstToGo t p (outs p) ≡ some e → length (outs (retire (e .carrier) p)) + 1 ≡ length (outs p)
       → run t p ≡ record { plan = e ∷ run t (retire (e .carrier) p) .plan; last = run t (retire (e .carrier) p) .last }
-  unfolding run runFor
+  unfolding runBy runForBy
   run-step {e} f n =
       ap (λ (k : ℕ). runFor k t p) (the-count n) ∙
       ap (λ (o : Option Entry). runOn p o (λ d. runFor (length (outs (retire (e .carrier) p))) t (retire (d .carrier) p))) f

@@ -15,7 +15,7 @@ use Rattle.model.specs.Track.{Track, headingOf, rev}
 use Rattle.model.specs.Position.{at, carrierOf, isFree, outs}
 use Rattle.model.proofs.PositionLaws.{held-stands}
 use Rattle.rules.specs.Search.{leastFrom}
-use Rattle.rules.specs.Key.{nexts, leavesHome, leastRoute, goesElse, firstToGo}
+use Rattle.rules.specs.Key.{nexts, leavesHome, leastRoute, goesElse, firstToGo, firstToGoBy}
 use Rattle.order.proofs.LeastRoute.{least-at}
 use Rattle.carriers.specs.Order.{carriersIn}
 use Rattle.carriers.proofs.Sorting.{zone-inside}
@@ -40,7 +40,7 @@ module _ {t : Track} {p follows free order : List ℕ} {count : ℕ} {words₀ f
   tried-none = record { small = omega arith; same-words = refl; same-froms = refl; rest = ap (firstToGo t p) (s .in-order .carriers) }
 
   pub nobody-goes : {words froms : List ℕ} {k : ℕ} → Tried t p order count words₀ froms₀ words froms k → k ≡ count → Sought t p words froms Nobody
-  unfolding firstToGo
+  unfolding firstToGoBy
   nobody-goes {words} {froms} {k} d e = record {
     entry =
         ap (λ (l : List ℕ). firstToGo t p (carriersIn p (keep (λ z. not (isFree p z)) l)))
@@ -119,7 +119,7 @@ module _ {t : Track} {p follows free order : List ℕ} {count : ℕ} {words₀ f
   turn-in-froms = omega (arith, turn-standing, x .next .seeking .room-froms, x .next .tried .same-froms)
 
   rest-held : goesElse carrier (leastRoute t p carrier) (firstToGo t p others) ≡ firstToGo t p (outs p)
-  unfolding firstToGo
+  unfolding firstToGoBy
   rest-held =
       ap (λ (b : Bool). firstToGo t p (carriersIn p (consIf (not b) zone (keep (λ z. not (isFree p z)) (drop (suc k) (take count order)))))) (sym (ne-eqb (at p zone) 0 (x .held))) ∙
       rest-here (x .next)

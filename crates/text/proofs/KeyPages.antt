@@ -14,7 +14,7 @@ use Rattle.model.specs.Position.{Position, outs}
 use Rattle.model.specs.Accepted.{Ready}
 use Rattle.model.specs.Reading.{refusal, trackSaid, positionSaid}
 use Rattle.model.proofs.ReadingLaws.{refusal-small, ready-said}
-use Rattle.rules.specs.Key.{KeyAnswer, turnsBack, run, named, verdictOf, planWords, keyFor, keyOf}
+use Rattle.rules.specs.Key.{KeyAnswer, turnsBack, run, named, verdictOf, planWords, keyFor, keyForBy, keyOf}
 use Rattle.order.proofs.Sizes.{plan-room, named-most}
 use Rattle.board.proofs.ReadBoard.{Bytes}
 use Rattle.page.specs.Page.{keyPage, refusedPage, pageFor, pageOf, PAGE}
@@ -52,7 +52,7 @@ module _ (b : List ℕ) {plan list plan′ list′ : List ℕ} {verdict planned 
     turned-back wrong = given .verdict-is ∙ ap (λ (k : KeyAnswer). k .verdict) (key-refused b (length plan) (length list) wrong)
 
     refused : turnsBack verdict ≡ true → refusal b ≡ 0 → ⊥
-    unfolding keyFor
+    unfolding keyForBy
     refused back none =
         true≢false (sym back ∙ ap turnsBack (given .verdict-is ∙ ap (λ (k : KeyAnswer). k .verdict) (drawn none)) ∙ verdict-goes (named t p))
 
@@ -86,23 +86,23 @@ module _ (b : List ℕ) {plan list plan′ list′ : List ℕ} {verdict planned 
       summary-is = said ∙ rw on
 
       verdict-is : verdict ≡ verdictOf (named t p)
-      unfolding keyFor
+      unfolding keyForBy
       verdict-is = answer .verdict-is
 
       planned-is : planned ≡ length (planWords (run t p .plan))
-      unfolding keyFor
+      unfolding keyForBy
       planned-is = answer .planned-is
 
       listed-is : listed ≡ length (named t p)
-      unfolding keyFor
+      unfolding keyForBy
       listed-is = answer .listed-is
 
       plan-written : take planned plan′ ≡ planWords (run t p .plan)
-      unfolding keyFor
+      unfolding keyForBy
       plan-written = read-back (planWords (run t p .plan)) plan planned-is (answer .plan-is)
 
       list-written : take listed list′ ≡ named t p
-      unfolding keyFor
+      unfolding keyForBy
       list-written = read-back (named t p) list listed-is (answer .list-is)
 
       small-key : SmallKey summary verdict (run t p .plan) (take listed list′)

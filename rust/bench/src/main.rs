@@ -43,7 +43,7 @@ fn worst() -> Board {
     Board { points: exit + around, home: 0, zones }
 }
 
-/// The library and the port give the same, before either is timed.
+/// The library and the port give the same, before either is timed; the sheet is right.
 fn agree(board: &[u8], sheet: &[u16]) {
     let (mut plan, mut list) = (vec![0u16; 96 * 194], vec![0u8; 96]);
     let (mut port_plan, mut port_list) = (plan.clone(), list.clone());
@@ -105,6 +105,9 @@ fn row(name: &str, what: &str, ours: &[f64], others: &[(&str, &[f64])]) {
 
 fn main() {
     let mut random = Random::new(7);
+    for (board, sheet, _, number) in second::document_02::at_gate() {
+        assert_eq!((nizkabel::mark(&board, sheet), port::mark(&board, sheet)), (number, number));
+    }
     println!("ratios of the proved library's time to each other one's");
     group("small", (0..2000).map(|_| boards::accepted(&mut random, 4, 6, 3, Loops::None)).collect(), 100);
     group("large", (0..60).map(|_| boards::accepted(&mut random, 40, 90, 4, Loops::None)).filter(|b| b.zones.len() <= 96).collect(), 100);

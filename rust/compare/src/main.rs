@@ -1,13 +1,15 @@
 //! Compares the proved library with the second implementation on many boards and sheets, whole: numbers, lengths, every word of plan and
 //! list, and canaries past what may be written. Ends with status 1 at the first difference.
 
+mod gate;
 mod loops;
 
 use compare::boards::{self, Loops};
 use compare::random::Random;
 use compare::sheets;
+use gate::GateTally;
 use loops::LoopTally;
-use second::Board;
+use second::{Board, Rule};
 
 const SEED: u64 = 20_261_115;
 const CANARY_WORD: u16 = 0xA5C3;
@@ -22,6 +24,7 @@ struct Tally {
     exhaustive: usize,
     full: usize,
     loops: LoopTally,
+    gate: GateTally,
     verdicts: std::collections::BTreeMap<u32, usize>,
     marks: std::collections::BTreeMap<u32, usize>,
 }
@@ -33,9 +36,13 @@ fn differ(what: &str, board: &[u8], detail: String) -> ! {
     std::process::exit(1);
 }
 
-/// The key and the collapse with this room lent.
+/// The key and the collapse with this room lent. The home gate changes no key.
 fn compare_key(tally: &mut Tally, bytes: &[u8], plan_room: usize, list_room: usize) {
     let expected = second::key(bytes, plan_room, list_room);
+    let older = second::key_by(Rule::Older, bytes, plan_room, list_room);
+    if older != expected {
+        differ("key by the older rule", bytes, format!("older {older:?}\nnow {expected:?}"));
+    }
     let mut plan = vec![CANARY_WORD; plan_room];
     let mut list = vec![CANARY_BYTE; list_room];
     let got = nizkabel::key(bytes, &mut plan, &mut list);
@@ -65,9 +72,20 @@ fn compare_mark(tally: &mut Tally, bytes: &[u8], sheet: &[u16]) {
     if got != expected {
         differ("mark", bytes, format!("sheet {sheet:?}\nexpected {expected}\ngot {got}"));
     }
+    tally.gate.add(second::mark_by(Rule::Older, bytes, sheet), got);
     tally.sheets += 1;
     tally.passed += (got == 0) as usize;
     *tally.marks.entry(got).or_default() += 1;
+}
+
+/// A sheet that is right by the older rule as far as it goes gets 32 exactly if it runs on through home.
+fn compare_run_on(tally: &mut Tally, board: &Board, sheet: &[u16]) {
+    let bytes = board.bytes();
+    compare_mark(tally, &bytes, sheet);
+    let got = nizkabel::mark(&bytes, sheet);
+    if (got == 32) != sheets::runs_on(board, sheet) || ![0, 32, 34].contains(&got) {
+        differ("a sheet that was right", &bytes, format!("sheet {sheet:?}\ngot {got}"));
+    }
 }
 
 fn compare_board(tally: &mut Tally, random: &mut Random, board: &Board) {
@@ -84,16 +102,19 @@ fn compare_board(tally: &mut Tally, random: &mut Random, board: &Board) {
         compare_key(tally, &bytes, room.saturating_sub(1), out.saturating_sub(random.below(2)));
         compare_key(tally, &bytes, room, out.saturating_sub(1));
     }
-    let named = second::named(board);
+    let named = second::named(Rule::HomeGate, board);
     tally.loops.add(board, &named);
-    let tried = sheets::by_tries(random, board);
+    let tried = sheets::by_tries(random, board, Rule::HomeGate);
+    let run_on = sheets::by_tries(random, board, Rule::Older);
     let claim = sheets::claim(&named);
+    compare_run_on(tally, board, &run_on);
+    compare_mark(tally, &bytes, &sheets::spoilt(random, &run_on));
     for sheet in [&tried, &claim] {
         compare_mark(tally, &bytes, sheet);
         compare_mark(tally, &bytes, &sheets::spoilt(random, sheet));
     }
     compare_mark(tally, &bytes, &sheets::noise(random));
-    if let Some((zone, sheet)) = sheets::run_again(random, &tried) {
+    if let Some((zone, sheet)) = sheets::run_again(random, board, &tried) {
         compare_mark(tally, &bytes, &sheet);
         if nizkabel::mark(&bytes, &sheet) != 32 {
             differ("a zone entered again straight after itself", &bytes, format!("sheet {sheet:?}"));
@@ -102,13 +123,15 @@ fn compare_board(tally: &mut Tally, random: &mut Random, board: &Board) {
     }
 }
 
-/// Small boards against every order, every route and, where every zone is held, every position of single moves.
+/// Small boards against every order, every route by either rule and, where every zone is held, every position of single moves.
 fn compare_exhaustive(tally: &mut Tally, board: &Board) {
     let bytes = board.bytes();
-    let found = second::key_by_enumeration(board);
     let expected = second::key(&bytes, 10_000, 255);
-    if found.key != expected || found.ordered != (expected.verdict == 0) || second::left(board) != expected.list {
-        differ("the second implementation with itself", &bytes, format!("{:?}\n{:?}", found.key, expected));
+    for rule in [Rule::HomeGate, Rule::Older] {
+        let found = second::key_by_enumeration(rule, board);
+        if found.key != expected || found.ordered != (expected.verdict == 0) || second::left(board) != expected.list {
+            differ("the second implementation with itself", &bytes, format!("{rule:?} {:?}\n{:?}", found.key, expected));
+        }
     }
     if board.zones.iter().all(|z| z.carrier != 0) {
         tally.full += 1;
@@ -120,7 +143,8 @@ fn compare_exhaustive(tally: &mut Tally, board: &Board) {
     tally.exhaustive += 1;
 }
 
-/// A board that may be refused: the key, the collapse and the key's own sheet, and an accepted one by exhaustion.
+/// A board that may be refused: the key, the collapse and the key's own sheet, and an accepted one by exhaustion, with a sheet for every route
+/// of every carrier by the older rule.
 fn compare_small(tally: &mut Tally, board: &Board) {
     let bytes = board.bytes();
     let accepted = second::read(&bytes).is_ok();
@@ -132,6 +156,11 @@ fn compare_small(tally: &mut Tally, board: &Board) {
     compare_mark(tally, &bytes, &sheet);
     if accepted {
         compare_exhaustive(tally, board);
+        for carrier in board.carriers() {
+            for route in second::routes(Rule::Older, board, carrier) {
+                compare_run_on(tally, board, &sheets::entry(carrier, &route));
+            }
+        }
     }
 }
 
@@ -193,11 +222,16 @@ fn main() {
         println!("too few boards or sheets with turning loops of some kind: {:?}", tally.loops);
         std::process::exit(1);
     }
+    if !tally.gate.fair() {
+        println!("too few sheets with routes that run on through home: {:?}", tally.gate);
+        std::process::exit(1);
+    }
     println!(
         "{} boards ({} accepted), {} sheets ({} passed), {} boards by exhaustion, {} of them full: no difference",
         tally.boards, tally.accepted, tally.sheets, tally.passed, tally.exhaustive, tally.full
     );
     println!("turning loops: {:?}", tally.loops);
+    println!("sheets that the home gate turns to 32: {:?}", tally.gate);
     println!("verdicts {:?}", tally.verdicts);
     println!("marks {:?}", tally.marks);
 }

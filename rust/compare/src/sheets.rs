@@ -1,14 +1,15 @@
-//! Sheets for a board: right ones by orders and routes other than the key's, claims, spoilt and random ones.
+//! Sheets for a board: by orders and routes other than the key's, right ones or ones that were right by the older moving rule; claims, spoilt and
+//! random ones.
 
 use crate::random::Random;
-use second::Board;
+use second::{Board, Rule};
 
-/// A route home of a carrier by a random walk, if one is found.
-fn wandering(random: &mut Random, board: &Board, carrier: u32) -> Option<Vec<usize>> {
+/// A route home of a carrier by a random walk, if one is found; by the older rule it may run through home and go on.
+fn wandering(random: &mut Random, board: &Board, carrier: u32, rule: Rule) -> Option<Vec<usize>> {
     let mut route = vec![board.standing(carrier)?];
     for _ in 0..4 * board.words() {
         let last = *route.last().unwrap();
-        if board.leave(last) == board.home && !random.once_in(4) {
+        if board.leaves_home(last) && (rule == Rule::HomeGate || random.once_in(2)) {
             return Some(route);
         }
         let next: Vec<usize> = (0..board.words()).filter(|&v| board.may_follow(carrier, last, v)).collect();
@@ -17,18 +18,18 @@ fn wandering(random: &mut Random, board: &Board, carrier: u32) -> Option<Vec<usi
         }
         route.push(next[random.below(next.len())]);
     }
-    (board.leave(*route.last().unwrap()) == board.home).then_some(route)
+    board.leaves_home(*route.last().unwrap()).then_some(route)
 }
 
 /// An order by random tries, each with a wandering route: as many carriers as it gets home.
-pub fn by_tries(random: &mut Random, board: &Board) -> Vec<u16> {
+pub fn by_tries(random: &mut Random, board: &Board, rule: Rule) -> Vec<u16> {
     let mut now = board.clone();
     let mut sheet = vec![0];
     let mut failures = 0;
     while !now.carriers().is_empty() && failures < 6 {
         let out = now.carriers();
         let carrier = out[random.below(out.len())];
-        match wandering(random, &now, carrier) {
+        match wandering(random, &now, carrier, rule) {
             Some(route) => {
                 sheet.push(carrier as u16);
                 sheet.push(route.len() as u16);
@@ -40,6 +41,11 @@ pub fn by_tries(random: &mut Random, board: &Board) -> Vec<u16> {
         }
     }
     sheet
+}
+
+/// A sheet with one entry.
+pub fn entry(carrier: u32, route: &[usize]) -> Vec<u16> {
+    [0, carrier as u16, route.len() as u16].into_iter().chain(route.iter().map(|&w| w as u16)).collect()
 }
 
 pub fn claim(list: &[u32]) -> Vec<u16> {
@@ -65,18 +71,33 @@ pub fn spoilt(random: &mut Random, sheet: &[u16]) -> Vec<u16> {
     words
 }
 
-/// A plan's sheet with a zone entered again straight after itself, the same way or the other: a word of one of its routes is followed by a
-/// word of its zone. With that zone; none where the plan has no entry.
-pub fn run_again(random: &mut Random, sheet: &[u16]) -> Option<(usize, Vec<u16>)> {
-    let mut entries = Vec::new();
+/// Where the entries of a plan's sheet start.
+fn entries(sheet: &[u16]) -> Vec<usize> {
+    let mut starts = Vec::new();
     let mut at = 1;
     while at < sheet.len() {
-        entries.push(at);
+        starts.push(at);
         at += 2 + sheet[at + 1] as usize;
     }
-    let entry = *entries.get(random.below(entries.len().max(1)))?;
+    starts
+}
+
+/// Whether some route of a plan's sheet runs on from a word that leaves at home.
+pub fn runs_on(board: &Board, sheet: &[u16]) -> bool {
+    let route = |entry: usize| &sheet[entry + 2..entry + 2 + sheet[entry + 1] as usize];
+    entries(sheet).into_iter().any(|entry| route(entry).split_last().is_some_and(|(_, words)| words.iter().any(|&w| board.leaves_home(w as usize))))
+}
+
+/// A plan's sheet with a zone entered again straight after itself, the same way or the other: a word of one of its routes, one that doesn't
+/// leave at home, is followed by a word of its zone. With that zone; none where the plan has no such word.
+pub fn run_again(random: &mut Random, board: &Board, sheet: &[u16]) -> Option<(usize, Vec<u16>)> {
+    let places: Vec<(usize, usize)> = entries(sheet)
+        .into_iter()
+        .flat_map(|entry| (entry + 2..entry + 2 + sheet[entry + 1] as usize).map(move |place| (entry, place)))
+        .filter(|&(_, place)| !board.leaves_home(sheet[place] as usize))
+        .collect();
+    let &(entry, place) = places.get(random.below(places.len().max(1)))?;
     let mut words = sheet.to_vec();
-    let place = entry + 2 + random.below(words[entry + 1] as usize);
     words.insert(place + 1, words[place] ^ random.below(2) as u16);
     words[entry + 1] += 1;
     Some((words[place] as usize / 2, words))

@@ -2,7 +2,7 @@
 
 use nizkabel::owned::{self, Entry, Refused};
 use second::document_01::{k, refused, starred, SHEETS_FOR_K};
-use second::document_02::{loops_refused, to_loop, turning_loops, SHEETS_FOR_LOOP};
+use second::document_02::{at_gate, loops_refused, to_loop, turning_loops, SHEETS_FOR_LOOP};
 
 fn plan(entries: &[Entry]) -> Vec<u16> {
     entries.iter().flat_map(|e| [e.carrier, e.words.len() as u16].into_iter().chain(e.words.iter().copied())).collect()
@@ -51,6 +51,9 @@ fn marks() {
     }
     for (sheet, number) in SHEETS_FOR_LOOP {
         assert_eq!(owned::mark(&to_loop([1, 1, 0, 0]), sheet), Ok(number));
+    }
+    for (board, sheet, _, number) in at_gate() {
+        assert_eq!(owned::mark(&board, sheet), Ok(number));
     }
 }
 

@@ -1,4 +1,11 @@
-//! The board in bytes, rows 1 to 9.
+//! The board in bytes, rows 1 to 9, and where its words lead.
+
+/// By which rule carriers move: with the home gate of request d, or the older one, by which a route may run through the home point and go on.
+#[derive(Clone, Copy, Debug, PartialEq, Eq)]
+pub enum Rule {
+    HomeGate,
+    Older,
+}
 
 #[derive(Clone, Debug, PartialEq, Eq)]
 pub struct Zone {
@@ -64,7 +71,12 @@ impl Board {
         next
     }
 
-    /// Whether a carrier on word w may go on by word v.
+    /// Whether a word leaves at the home point.
+    pub fn leaves_home(&self, word: usize) -> bool {
+        self.leave(word) == self.home
+    }
+
+    /// Whether a carrier on word w may go on by word v, where no gate takes it in first.
     pub fn may_follow(&self, carrier: u32, w: usize, v: usize) -> bool {
         let held = self.zones[v / 2].carrier;
         self.start(v) == self.leave(w) && v / 2 != w / 2 && (held == 0 || held == carrier)

@@ -1,6 +1,6 @@
 //! Boards and sheets of the requests of document 02 with what they give, for the tests of this implementation and of the wrapper.
 
-use crate::document_01::Row;
+use crate::document_01::{k, t, Row};
 
 /// A board with home 0, so many points, and for each zone its four bytes.
 fn laid_out(points: u8, zones: &[[u8; 4]]) -> Vec<u8> {
@@ -13,6 +13,11 @@ pub fn to_loop(last: [u8; 4]) -> Vec<u8> {
     laid_out(2, &[[0, 1, 5, 0], last])
 }
 
+/// Carrier 5 stands in a turning loop at home.
+fn loop_at_home() -> Vec<u8> {
+    laid_out(2, &[[0, 1, 0, 0], [0, 1, 0, 0], [0, 0, 5, 1]])
+}
+
 /// Request c: accepted boards with turning loops.
 pub fn turning_loops() -> Vec<Row> {
     vec![
@@ -23,7 +28,7 @@ pub fn turning_loops() -> Vec<Row> {
         (laid_out(2, &[[0, 1, 5, 1], [1, 1, 6, 0]]), 0, &[5, 1, 1, 6, 2, 2, 1], &[]),
         (laid_out(2, &[[0, 1, 0, 0], [1, 1, 6, 0]]), 0, &[6, 2, 2, 1], &[]),
         (laid_out(2, &[[0, 1, 0, 0], [1, 1, 6, 1]]), 0, &[6, 2, 3, 1], &[]),
-        (laid_out(2, &[[0, 1, 0, 0], [0, 1, 0, 0], [0, 0, 5, 1]]), 0, &[5, 1, 5], &[]),
+        (loop_at_home(), 0, &[5, 1, 5], &[]),
         (laid_out(2, &[[0, 1, 7, 0], [0, 1, 9, 0], [0, 0, 0, 0]]), 20, &[], &[7, 9]),
         (laid_out(2, &[[0, 1, 5, 0], [0, 1, 6, 0], [1, 1, 0, 0]]), 0, &[5, 3, 0, 4, 1, 6, 2, 2, 1], &[]),
         (laid_out(2, &[[0, 1, 5, 0], [1, 1, 6, 0], [1, 1, 0, 0]]), 0, &[5, 3, 0, 4, 1, 6, 2, 2, 1], &[]),
@@ -50,3 +55,19 @@ pub const SHEETS_FOR_LOOP: [(&[u16], u32); 4] = [
     (&[0, 5, 3, 0, 3, 1], 0),
     (&[1, 5], 35),
 ];
+
+/// Request d: boards and sheets with their marks by the older moving rule and with the home gate.
+pub fn at_gate() -> Vec<(Vec<u8>, &'static [u16], u32, u32)> {
+    let near_home = t([7, 1], [0, 0]);
+    let mut other_home = near_home.clone();
+    other_home[4] = 1;
+    vec![
+        (k(), &[0, 7, 4, 0, 3, 0, 3], 0, 32),
+        (near_home.clone(), &[0, 7, 3, 1, 2, 1], 0, 32),
+        (near_home.clone(), &[0, 7, 2, 1, 2], 33, 32),
+        (near_home, &[0, 7, 1, 1], 0, 0),
+        (loop_at_home(), &[0, 5, 3, 5, 0, 3], 0, 32),
+        (other_home.clone(), &[0, 7, 4, 1, 2, 1, 2], 0, 32),
+        (other_home, &[0, 7, 2, 1, 2], 0, 0),
+    ]
+}

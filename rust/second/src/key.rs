@@ -1,6 +1,7 @@
-//! The key by distances: for each carrier the number of words that it still needs from each word, by a backward fixpoint.
+//! The key by distances: for each carrier the number of words that it still needs from each word, by a backward fixpoint. By the older
+//! moving rule, the key by tables: for each number of words those words from which exactly so many lead home, through home or not.
 
-use crate::board::{read, Board};
+use crate::board::{read, Board, Rule};
 
 #[derive(Clone, Debug, PartialEq, Eq)]
 pub struct Key {
@@ -11,8 +12,10 @@ pub struct Key {
 
 /// How many words after each word bring the carrier home, at least; none where no number does.
 fn distances(board: &Board, carrier: u32) -> Vec<Option<usize>> {
-    let mut far: Vec<Option<usize>> = (0..board.words()).map(|w| (board.leave(w) == board.home).then_some(0)).collect();
-    let follow: Vec<Vec<usize>> = (0..board.words()).map(|w| (0..board.words()).filter(|&v| board.may_follow(carrier, w, v)).collect()).collect();
+    let mut far: Vec<Option<usize>> = (0..board.words()).map(|w| board.leaves_home(w).then_some(0)).collect();
+    // The home gate takes in every arrival, so no word follows one that leaves there.
+    let onward = |w: usize| (0..board.words()).filter(move |&v| !board.leaves_home(w) && board.may_follow(carrier, w, v));
+    let follow: Vec<Vec<usize>> = (0..board.words()).map(|w| onward(w).collect()).collect();
     loop {
         let mut changed = false;
         for w in 0..board.words() {
@@ -31,7 +34,7 @@ fn distances(board: &Board, carrier: u32) -> Vec<Option<usize>> {
 }
 
 /// The route with the fewest words, smallest at the first difference.
-pub(crate) fn least_route(board: &Board, carrier: u32) -> Option<Vec<usize>> {
+fn least_route(board: &Board, carrier: u32) -> Option<Vec<usize>> {
     let mut word = board.standing(carrier)?;
     let far = distances(board, carrier);
     let mut left = far[word]?;
@@ -40,6 +43,27 @@ pub(crate) fn least_route(board: &Board, carrier: u32) -> Option<Vec<usize>> {
         left -= 1;
         word = (0..board.words()).find(|&v| board.may_follow(carrier, word, v) && far[v] == Some(left))?;
         route.push(word);
+    }
+    Some(route)
+}
+
+/// The same by the older rule. No least route has more than 2 × Z words.
+fn older_least_route(board: &Board, carrier: u32) -> Option<Vec<usize>> {
+    let standing = board.standing(carrier)?;
+    let words = || 0..board.words();
+    let mut exactly: Vec<Vec<bool>> = vec![words().map(|w| board.leaves_home(w)).collect()];
+    while !exactly.last()?[standing] {
+        if exactly.len() == board.words() {
+            return None;
+        }
+        let fewer = exactly.last()?;
+        let more = words().map(|w| words().any(|v| fewer[v] && board.may_follow(carrier, w, v))).collect();
+        exactly.push(more);
+    }
+    let mut route = vec![standing];
+    for fewer in exactly.iter().rev().skip(1) {
+        let last = *route.last()?;
+        route.push(words().find(|&v| fewer[v] && board.may_follow(carrier, last, v))?);
     }
     Some(route)
 }
@@ -64,13 +88,25 @@ pub(crate) fn verdict(list: &[u32]) -> u32 {
     }
 }
 
+fn plan_by(rule: Rule, board: &Board) -> (Vec<u16>, Board) {
+    match rule {
+        Rule::HomeGate => plan_with(board, least_route),
+        Rule::Older => plan_with(board, older_least_route),
+    }
+}
+
 /// The carriers that the key names.
-pub fn named(board: &Board) -> Vec<u32> {
-    plan_with(board, least_route).1.carriers()
+pub fn named(rule: Rule, board: &Board) -> Vec<u32> {
+    plan_by(rule, board).1.carriers()
 }
 
 /// The key of a board in bytes with this room lent.
 pub fn key(bytes: &[u8], plan_room: usize, list_room: usize) -> Key {
+    key_by(Rule::HomeGate, bytes, plan_room, list_room)
+}
+
+/// The key by one of the two rules.
+pub fn key_by(rule: Rule, bytes: &[u8], plan_room: usize, list_room: usize) -> Key {
     let refused = |verdict| Key { verdict, plan: Vec::new(), list: Vec::new() };
     let board = match read(bytes) {
         Err(number) => return refused(number),
@@ -83,7 +119,7 @@ pub fn key(bytes: &[u8], plan_room: usize, list_room: usize) -> Key {
     if list_room < out {
         return refused(11);
     }
-    let (plan, last) = plan_with(&board, least_route);
+    let (plan, last) = plan_by(rule, &board);
     let list = last.carriers();
     Key { verdict: verdict(&list), plan, list }
 }

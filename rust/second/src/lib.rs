@@ -10,8 +10,8 @@ mod key;
 mod small;
 mod sheet;
 
-pub use board::{read, Board, Zone};
+pub use board::{read, Board, Rule, Zone};
 pub use collapse::{collapse, left};
-pub use key::{key, named, Key};
-pub use sheet::mark;
-pub use small::{all_positions_keep, key_by_enumeration, ordered_by_permutation, Outcome};
+pub use key::{key, key_by, named, Key};
+pub use sheet::{mark, mark_by};
+pub use small::{all_positions_keep, key_by_enumeration, routes, Outcome};

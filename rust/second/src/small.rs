@@ -1,46 +1,46 @@
 //! Small boards by exhaustion: every route, every order, every position that single moves reach.
 
-use crate::board::Board;
+use crate::board::{Board, Rule};
 use crate::key::{plan_with, verdict, Key};
 use std::collections::HashSet;
 
-/// Every route of a carrier that passes no word twice; the least route is among them.
-fn routes(board: &Board, carrier: u32) -> Vec<Vec<usize>> {
-    fn go(board: &Board, carrier: u32, path: &mut Vec<usize>, all: &mut Vec<Vec<usize>>) {
+/// Every route of a carrier that passes no word twice; the least route is among them. With the home gate each ends where it first leaves at home.
+pub fn routes(rule: Rule, board: &Board, carrier: u32) -> Vec<Vec<usize>> {
+    fn go(rule: Rule, board: &Board, carrier: u32, path: &mut Vec<usize>, all: &mut Vec<Vec<usize>>) {
         let last = *path.last().unwrap();
-        if board.leave(last) == board.home {
+        if board.leaves_home(last) {
             all.push(path.clone());
+            if rule == Rule::HomeGate {
+                return;
+            }
         }
         for v in 0..board.words() {
             if !path.contains(&v) && board.may_follow(carrier, last, v) {
                 path.push(v);
-                go(board, carrier, path, all);
+                go(rule, board, carrier, path, all);
                 path.pop();
             }
         }
     }
     let mut all = Vec::new();
     if let Some(word) = board.standing(carrier) {
-        go(board, carrier, &mut vec![word], &mut all);
+        go(rule, board, carrier, &mut vec![word], &mut all);
     }
     all
 }
 
-fn least(board: &Board, carrier: u32) -> Option<Vec<usize>> {
-    routes(board, carrier).into_iter().min_by(|a, b| a.len().cmp(&b.len()).then_with(|| a.cmp(b)))
+fn least(rule: Rule, board: &Board, carrier: u32) -> Option<Vec<usize>> {
+    routes(rule, board, carrier).into_iter().min_by(|a, b| a.len().cmp(&b.len()).then_with(|| a.cmp(b)))
 }
 
-fn can_go(board: &Board, carrier: u32) -> bool {
-    !routes(board, carrier).is_empty()
+fn can_go(rule: Rule, board: &Board, carrier: u32) -> bool {
+    !routes(rule, board, carrier).is_empty()
 }
 
 /// Whether some order of all carriers gives each a route, all orders tried.
-pub fn ordered_by_permutation(board: &Board) -> bool {
-    fn go(board: &Board) -> bool {
-        let out = board.carriers();
-        out.is_empty() || out.into_iter().any(|c| can_go(board, c) && go(&board.without(c)))
-    }
-    go(board)
+fn ordered_by_permutation(rule: Rule, board: &Board) -> bool {
+    let out = board.carriers();
+    out.is_empty() || out.into_iter().any(|c| can_go(rule, board, c) && ordered_by_permutation(rule, &board.without(c)))
 }
 
 pub struct Outcome {
@@ -49,23 +49,23 @@ pub struct Outcome {
 }
 
 /// The key with every route enumerated, the blocked carriers as those in no sequence of retirements.
-pub fn key_by_enumeration(board: &Board) -> Outcome {
-    fn gone(board: &Board, seen: &mut HashSet<Vec<u32>>, ever: &mut HashSet<u32>) {
+pub fn key_by_enumeration(rule: Rule, board: &Board) -> Outcome {
+    fn gone(rule: Rule, board: &Board, seen: &mut HashSet<Vec<u32>>, ever: &mut HashSet<u32>) {
         if !seen.insert(board.carriers()) {
             return;
         }
         for c in board.carriers() {
-            if can_go(board, c) {
+            if can_go(rule, board, c) {
                 ever.insert(c);
-                gone(&board.without(c), seen, ever);
+                gone(rule, &board.without(c), seen, ever);
             }
         }
     }
     let mut ever = HashSet::new();
-    gone(board, &mut HashSet::new(), &mut ever);
+    gone(rule, board, &mut HashSet::new(), &mut ever);
     let list: Vec<u32> = board.carriers().into_iter().filter(|c| !ever.contains(c)).collect();
-    let (plan, _) = plan_with(board, least);
-    Outcome { ordered: ordered_by_permutation(board), key: Key { verdict: verdict(&list), plan, list } }
+    let (plan, _) = plan_with(board, |b, c| least(rule, b, c));
+    Outcome { ordered: ordered_by_permutation(rule, board), key: Key { verdict: verdict(&list), plan, list } }
 }
 
 /// Whether in every position that single moves reach each of these carriers stands where it stood. Every position is visited.
@@ -86,16 +86,17 @@ pub fn all_positions_keep(board: &Board, carriers: &[u32]) -> bool {
             }
         };
         for z in (0..now.len()).filter(|&z| now[z].0 != 0) {
+            let mut left = now.clone();
+            left[z] = (0, 0);
             let point = board.leave(2 * z + now[z].1 as usize);
-            for v in (0..board.words()).filter(|&v| now[v / 2].0 == 0 && board.start(v) == point) {
-                let mut next = now.clone();
-                next[v / 2] = (now[z].0, (v % 2) as u32);
-                next[z] = (0, 0);
-                reach(next);
-            }
+            // At the home gate a carrier goes only into home.
             if point == board.home {
-                let mut next = now.clone();
-                next[z] = (0, 0);
+                reach(left);
+                continue;
+            }
+            for v in (0..board.words()).filter(|&v| now[v / 2].0 == 0 && board.start(v) == point) {
+                let mut next = left.clone();
+                next[v / 2] = (now[z].0, (v % 2) as u32);
                 reach(next);
             }
         }

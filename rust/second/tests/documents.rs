@@ -1,8 +1,8 @@
 //! The boards and sheets of documents 01 and 02 by the second implementation.
 
 use second::document_01::{k, refused, starred, SHEETS_FOR_K};
-use second::document_02::{loops_refused, to_loop, turning_loops, SHEETS_FOR_LOOP};
-use second::{collapse, key, mark, read};
+use second::document_02::{at_gate, loops_refused, to_loop, turning_loops, SHEETS_FOR_LOOP};
+use second::{collapse, key, key_by, mark, mark_by, read, Rule};
 
 #[test]
 fn boards() {
@@ -10,6 +10,7 @@ fn boards() {
         let drawn = key(&board, 96, 8);
         let list: Vec<u32> = blocked.iter().map(|&c| c.into()).collect();
         assert_eq!((drawn.verdict, &drawn.plan[..], &drawn.list[..]), (verdict, plan, &list[..]));
+        assert_eq!(key_by(Rule::Older, &board, 96, 8), drawn);
         assert_eq!(collapse(&board, 8), (0, list));
     }
 }
@@ -29,5 +30,8 @@ fn refusals_and_marks() {
     }
     for (sheet, number) in SHEETS_FOR_LOOP {
         assert_eq!(mark(&to_loop([1, 1, 0, 0]), sheet), number);
+    }
+    for (board, sheet, older, now) in at_gate() {
+        assert_eq!((mark_by(Rule::Older, &board, sheet), mark(&board, sheet)), (older, now));
     }
 }

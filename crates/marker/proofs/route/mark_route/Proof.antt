@@ -4,7 +4,7 @@ use Prim.Native.Nat.{_-_}
 use mathlib.Core.Path.{refl}
 use native.Mathlib.Omega.{arith}
 use Rattle.model.specs.Track.{trackOf}
-use Rattle.marker.proofs.RouteLaws.{Following, no-word, no-step, step-on, not-home, at-home}
+use Rattle.marker.proofs.RouteLaws.{Following, past-home, no-word, no-step, step-on, not-home, at-home}
 use Rattle.marker.proofs.route.mark_route.Statement.{statement}
 use Rattle.marker.proofs.route.mark_route.Tie as tie
 
@@ -22,29 +22,33 @@ loop-holds c =
     let a = c .before .before .before .before in
     record { room = a .pre .3; leaves = c .leaving .ensures; same = refl }
 
+returns : tie.Need-returns Inv-loop μ-loop
+returns c = let b = c .before .before in past-home (b .before .loop .inv) (b .loop-test .taken) (c .if1 .taken)
+
 mul-v : tie.Need-mul-v Inv-loop μ-loop
-mul-v c = omega (arith, c .before .loop .inv .room)
+mul-v c = omega (arith, c .before .before .before .loop .inv .room)
 
 shared-slice-read-v : tie.Need-shared-slice-read-v Inv-loop μ-loop
-shared-slice-read-v c = omega (arith, c .before .before .loop .inv .room)
+shared-slice-read-v c = omega (arith, c .before .before .before .before .loop .inv .room)
 
 cast-v : tie.Need-cast-v Inv-loop μ-loop
-cast-v c = omega (arith, c .shared-slice-known4 .given (c .before .before .loop .i))
+cast-v c = omega (arith, c .shared-slice-known4 .given (c .before .before .before .before .loop .i))
 
-mul-if1 : tie.Need-mul-if1 Inv-loop μ-loop
-mul-if1 c = omega arith
+mul-if2 : tie.Need-mul-if2 Inv-loop μ-loop
+mul-if2 c = omega arith
 
-returns : tie.Need-returns Inv-loop μ-loop
-returns c = let b = c .before .before .before in no-word (b .before .loop .inv) (b .loop-test .taken) (omega arith)
+returns-2 : tie.Need-returns-2 Inv-loop μ-loop
+returns-2 c = let b = c .before .before .before .before .before in no-word (b .before .loop .inv) (b .loop-test .taken) (omega arith)
 
 may-step-requires : tie.Need-may-step-requires Inv-loop μ-loop
 may-step-requires c κs = omega arith
 
-returns-2 : tie.Need-returns-2 Inv-loop μ-loop
-returns-2 c =
+returns-3 : tie.Need-returns-3 Inv-loop μ-loop
+returns-3 c =
     let d = c .before .before in
-    let b = d .before .before .before in
-    no-step (b .before .loop .inv) (b .loop-test .taken) (d .if1 .left) (c .before .may-step .ensures) (c .if2 .taken)
+    let o = d .before .before .before in
+    let b = o .before .before in
+    no-step (b .before .loop .inv) (b .loop-test .taken) (o .if1 .left) (d .if2 .left) (c .before .may-step .ensures) (c .if3 .taken)
 
 leaving-requires-2 : tie.Need-leaving-requires-2 Inv-loop μ-loop
 leaving-requires-2 c κs = omega arith
@@ -59,14 +63,15 @@ loop-again : tie.Need-loop-again Inv-loop μ-loop
 loop-again c =
     let e = c .before in
     let d = e .before .before in
-    let b = d .before .before .before in
-    step-on (b .before .loop .inv) (b .loop-test .taken) (d .if1 .left) (e .before .may-step .ensures) (e .if2 .left) (c .leaving2 .ensures)
-
-returns-3 : tie.Need-returns-3 Inv-loop μ-loop
-returns-3 c = not-home (c .before .before .before .loop .inv) (c .before .before .loop-test .left) (c .if3 .taken)
+    let o = d .before .before .before in
+    let b = o .before .before in
+    step-on (b .before .loop .inv) (b .loop-test .taken) (o .if1 .left) (d .if2 .left) (e .before .may-step .ensures) (e .if3 .left) (c .leaving2 .ensures)
 
 returns-4 : tie.Need-returns-4 Inv-loop μ-loop
-returns-4 c = at-home (c .before .before .before .loop .inv) (c .before .before .loop-test .left) (c .if3 .left)
+returns-4 c = not-home (c .before .before .before .loop .inv) (c .before .before .loop-test .left) (c .if4 .taken)
+
+returns-5 : tie.Need-returns-5 Inv-loop μ-loop
+returns-5 c = at-home (c .before .before .before .loop .inv) (c .before .before .loop-test .left) (c .if4 .left)
 
 pub mark-route-spec : {M : Type 1} → statement M
 mark-route-spec =
@@ -76,16 +81,17 @@ mark-route-spec =
     μ-loop
     leaving-requires
     loop-holds
+    returns
     mul-v
     shared-slice-read-v
     cast-v
-    mul-if1
-    returns
-    may-step-requires
+    mul-if2
     returns-2
+    may-step-requires
+    returns-3
     leaving-requires-2
     add-i
     loop-less
     loop-again
-    returns-3
-    returns-4)
+    returns-4
+    returns-5)

@@ -1,0 +1,4 @@
+pub mod RouteCut
+pub mod KeyAsBefore
+pub mod MarkAsBefore
+pub mod MovesAsBefore

@@ -9,7 +9,9 @@ use Rattle.model.specs.Track.{Track}
 use Rattle.model.specs.Position.{Position, outs, retire, standing}
 use Rattle.model.specs.Reading.{trackSaid, positionSaid}
 use Rattle.rules.specs.Routes.{Entry}
-use Rattle.rules.specs.Key.{leavesHome, ungatedSteps, nexts, nextsBy, zoneFor, routeFrom, routeFromBy, leastRoute, leastRouteBy, goesElse, firstToGo, firstToGoBy, Run, runOn, runFor, runForBy, run, runBy, named, namedBy, verdictOf, planWords, keyFor, keyForBy, keyInBy, keyOfBy}
+use Rattle.rules.specs.Key.{leavesHome, ungatedSteps, zoneFor, goesElse, Run, runOn, verdictOf, planWords}
+use Rattle.rules.specs.Key.{nexts, routeFrom, leastRoute, firstToGo, runFor, run, named, keyFor}
+use Rattle.rules.specs.Key.{nextsBy, routeFromBy, leastRouteBy, firstToGoBy, runForBy, runBy, namedBy, keyForBy, keyInBy, keyOfBy}
 use Rattle.rules.proofs.StepsAfter.{elsewhere-as-before}
 use Rattle.least.proofs.GoalsShut.{least-same}
 use Rattle.homegate.specs.AgainstOlder.{KeySame}

@@ -16,7 +16,8 @@ use Rattle.model.specs.Reading.{refusal, trackSaid, positionSaid}
 use Rattle.model.proofs.BoolLaws.{and-left}
 use Rattle.rules.specs.Key.{leavesHome, ungatedSteps}
 use Rattle.rules.proofs.OutTested.{stands-out}
-use Rattle.rules.specs.Sheet.{stillOut, follow, followBy, byRules, byRulesBy, endsHome, numberOf, markEntryBy, markEntries, markEntriesBy, sameList, markClaim, markClaimBy, markFor, markForBy, markOf, markOfBy}
+use Rattle.rules.specs.Sheet.{stillOut, endsHome, numberOf, sameList, follow, byRules, markEntries, markClaim, markFor, markOf}
+use Rattle.rules.specs.Sheet.{followBy, byRulesBy, markEntryBy, markEntriesBy, markClaimBy, markForBy, markOfBy}
 use Rattle.homegate.specs.AgainstOlder.{homeIsLast, RulesGated, RunsOnGets32, MarkOr32}
 use Rattle.homegate.proofs.KeyAsBefore.{named-same}
 
@@ -70,7 +71,8 @@ runs-on-gets-32 t p c k ws rest has-words fits (w, s) last =
     rw (ne-eqb k 0 has-words, le-ltb (length ws) k fits, stands-out s, rules)
 
 -- an entry's number, where its route is by the rules only if it was, and the rest's number is what it was or 32
-number-same : (short out rules older home : Bool) (rest before : ℕ) → (rules ≡ true → older ≡ true) → SameOr32 rest before → SameOr32 (numberOf short out rules home rest) (numberOf short out older home before)
+number-same : (short out rules older home : Bool) (rest before : ℕ) → (rules ≡ true → older ≡ true) → SameOr32 rest before
+    → SameOr32 (numberOf short out rules home rest) (numberOf short out older home before)
 number-same true out rules older home rest before h s = inl refl
 number-same false false rules older home rest before h s = inl refl
 number-same false true false older home rest before h s = inr refl
@@ -108,7 +110,9 @@ mark-same : (b sheet : List ℕ) → SameOr32 (markOf b sheet) (markOfBy ungated
 unfolding markOfBy
 mark-same b sheet = go (eqb (refusal b) 0)
   where
-    go : (accepted : Bool) → SameOr32 (cond accepted (markFor (trackSaid b) (positionSaid b) sheet) (refusal b)) (cond accepted (markForBy ungatedSteps (trackSaid b) (positionSaid b) sheet) (refusal b))
+    go : (accepted : Bool)
+        → SameOr32 (cond accepted (markFor (trackSaid b) (positionSaid b) sheet) (refusal b))
+        (cond accepted (markForBy ungatedSteps (trackSaid b) (positionSaid b) sheet) (refusal b))
     go true = mark-for-same (trackSaid b) (positionSaid b) sheet
     go false = inl refl
 

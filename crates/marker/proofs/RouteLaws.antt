@@ -73,12 +73,16 @@ module _ {t : Track} {p : Position} {c standing : ℕ} {sheet : List ℕ} {from 
       ∙ sym (e ∙ ap (λ (q : ℕ). eqb (start t v) q && mayFollow p c w v) (g .leaves))
 
   pub past-home : i < end → point ≡ t .home → 32 ≡ whole
-  past-home h e = sym (follow-next (ltb (getD sheet i 0) (2 * t .zones)) false h refl (no-way (getD sheet i 0) e) ∙ ap (λ (b : Bool). cond b (routeNumber t p c (getD sheet i 0) (take (end - (i + 1)) (drop (i + 1) sheet))) 32) (and-false (ltb (getD sheet i 0) (2 * t .zones))))
+  past-home h e =
+      let v = getD sheet i 0 in
+      let rest = routeNumber t p c v (take (end - (i + 1)) (drop (i + 1) sheet)) in
+      sym (follow-next (ltb v (2 * t .zones)) false h refl (no-way v e) ∙ ap (λ (b : Bool). cond b rest 32) (and-false (ltb v (2 * t .zones))))
 
   pub no-word : i < end → 2 * t .zones ≤ getD sheet i 0 → 32 ≡ whole
   no-word h e = sym (follow-next false (steps t p c w (getD sheet i 0)) h (le-ltb (getD sheet i 0) (2 * t .zones) e) refl)
 
-  pub no-step : {r : Bool} → i < end → (point ≡ t .home → ⊥) → getD sheet i 0 < 2 * t .zones → r ≡ (eqb (start t (getD sheet i 0)) point && mayFollow p c w (getD sheet i 0)) → not r ≡ true → 32 ≡ whole
+  pub no-step : {r : Bool} → i < end → (point ≡ t .home → ⊥) → getD sheet i 0 < 2 * t .zones
+      → r ≡ (eqb (start t (getD sheet i 0)) point && mayFollow p c w (getD sheet i 0)) → not r ≡ true → 32 ≡ whole
   no-step {r} h o e f n = sym (follow-next true false h (lt-ltb (getD sheet i 0) (2 * t .zones) e) (may-go (getD sheet i 0) o f ∙ not-true r n))
 
   pub step-on : {r : Bool} {q : ℕ} → i < end → (point ≡ t .home → ⊥) → getD sheet i 0 < 2 * t .zones → r ≡ (eqb (start t (getD sheet i 0)) point && mayFollow p c w (getD sheet i 0)) → not r ≡ false

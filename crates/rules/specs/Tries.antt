@@ -35,7 +35,8 @@ pub data Move : Type 0 where
 -- what a move that the rules allow leaves, where `asked` must hold of the word that a carrier goes on from into another; a move with no case here
 -- is forbidden
 pub data AllowedFrom (asked : Track → ℕ → Type 0) (t : Track) (p : Position) : Move → Position → Type 0 where
-  enters : {c w : ℕ} (u : ℕ) → Stands p c u → asked t u → w < 2 * t .zones → at p (zoneOf w) ≡ 0 → start t w ≡ leave t u → AllowedFrom asked t p (into c w) (set (retire c p) (zoneOf w) (2 * c + headingOf w))
+  enters : {c w : ℕ} (u : ℕ) → Stands p c u → asked t u → w < 2 * t .zones → at p (zoneOf w) ≡ 0 → start t w ≡ leave t u
+      → AllowedFrom asked t p (into c w) (set (retire c p) (zoneOf w) (2 * c + headingOf w))
   arrives : {c : ℕ} (u : ℕ) → Stands p c u → leave t u ≡ t .home → AllowedFrom asked t p (home c) (retire c p)
 
 -- the home gate: a carrier heading for the home point goes only into home

@@ -17,6 +17,7 @@ use Rattle.rules.specs.Search.{leastFrom}
 use Rattle.rules.specs.Key.{mayEnter, nexts, nextsBy, leavesHome}
 use Rattle.rules.proofs.StepsAfter.{elsewhere-as-before}
 use Rattle.least.specs.Queue.{Queue, Found, offerAll, searchOn, searchFrom, wayOf}
+use Rattle.least.proofs.QueueLaws.{wordAt}
 use Rattle.least.proofs.SearchLaws.{search-past, search-goal, search-on, search-from}
 use Rattle.least.proofs.BreadthFirst.{search-least}
 use Rattle.order.proofs.Steps.{nexts-ascending, nexts-below}
@@ -84,15 +85,22 @@ module _ {t : Track} {p : List ℕ} {c standing : ℕ} {words₀ froms₀ words 
 
     module _ (e : getD (t .ends) (rev (getD words i 0)) 0 ≡ t .home → ⊥) {follows : List ℕ} (tables : BoardTable (t .zones) (t .ends) p follows) {words′ froms′ enterable′ : List ℕ} {r : ℕ}
         (o : Offered follows (getD words i 0) i n words froms enterable words′ froms′ enterable′ r) (as-words : length words′ ≡ length words) (as-froms : length froms′ ≡ length froms) (as-enterable : length enterable′ ≡ length enterable) where
-      pub looking-more : Looking t p c standing words₀ froms₀ words′ froms′ enterable′ r (i + 1)
+      -- the word doesn't leave at home, so what is offered after it is what the rule with the home gate allows
+      offered : queueIn words′ froms′ r ≡ offerAll i q (nexts t p c (wordAt q i))
       unfolding nextsBy
+      offered =
+          offered-queue tables looking-word (l .queued) h o ∙
+          ap (offerAll i q) (sym (elsewhere-as-before t p c (getD words i 0) (ne-eqb _ _ e))) ∙
+          ap (λ (w : ℕ). offerAll i q (nexts t p c w)) (sym (queue-word (l .queued) i h))
+
+      pub looking-more : Looking t p c standing words₀ froms₀ words′ froms′ enterable′ r (i + 1)
       looking-more = rw add-one record {
         queued = offered-queued tables looking-word (l .queued) h o as-words as-froms as-enterable;
         low = offered-later tables looking-word (l .queued) h o;
         same-words = as-words ∙ l .same-words;
         same-froms = as-froms ∙ l .same-froms;
         search =
-            ap (λ (x : Queue). searchOn (nexts t p c) (leavesHome t) (2 * t .zones - suc i) x (suc i)) (offered-queue tables looking-word (l .queued) h o ∙ ap (offerAll i q) (sym (elsewhere-as-before t p c (getD words i 0) (ne-eqb _ _ e))) ∙ ap (λ (w : ℕ). offerAll i q (nexts t p c w)) (sym (queue-word (l .queued) i h))) ∙
+            ap (λ (x : Queue). searchOn (nexts t p c) (leavesHome t) (2 * t .zones - suc i) x (suc i)) offered ∙
             sym (search-on (nexts t p c) (leavesHome t) (2 * t .zones - suc i) q i (rw (queue-size (l .queued)) h) (ap (leavesHome t) (queue-word (l .queued) i h) ∙ ne-eqb _ _ e)) ∙
             search-here;
       }

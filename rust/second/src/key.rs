@@ -10,12 +10,16 @@ pub struct Key {
     pub list: Vec<u32>,
 }
 
+/// For each word those that a carrier may go on by. The home gate takes in every arrival, so with it none follows a word that leaves there.
+fn next_words(rule: Rule, board: &Board, carrier: u32) -> Vec<Vec<usize>> {
+    let goes_on = |w: usize| rule == Rule::Older || !board.leaves_home(w);
+    (0..board.words()).map(|w| (0..board.words()).filter(|&v| goes_on(w) && board.may_follow(carrier, w, v)).collect()).collect()
+}
+
 /// How many words after each word bring the carrier home, at least; none where no number does.
 fn distances(board: &Board, carrier: u32) -> Vec<Option<usize>> {
     let mut far: Vec<Option<usize>> = (0..board.words()).map(|w| board.leaves_home(w).then_some(0)).collect();
-    // The home gate takes in every arrival, so no word follows one that leaves there.
-    let onward = |w: usize| (0..board.words()).filter(move |&v| !board.leaves_home(w) && board.may_follow(carrier, w, v));
-    let follow: Vec<Vec<usize>> = (0..board.words()).map(|w| onward(w).collect()).collect();
+    let follow = next_words(Rule::HomeGate, board, carrier);
     loop {
         let mut changed = false;
         for w in 0..board.words() {
@@ -50,20 +54,20 @@ fn least_route(board: &Board, carrier: u32) -> Option<Vec<usize>> {
 /// The same by the older rule. No least route has more than 2 × Z words.
 fn older_least_route(board: &Board, carrier: u32) -> Option<Vec<usize>> {
     let standing = board.standing(carrier)?;
-    let words = || 0..board.words();
-    let mut exactly: Vec<Vec<bool>> = vec![words().map(|w| board.leaves_home(w)).collect()];
+    let follow = next_words(Rule::Older, board, carrier);
+    let mut exactly: Vec<Vec<bool>> = vec![(0..board.words()).map(|w| board.leaves_home(w)).collect()];
     while !exactly.last()?[standing] {
         if exactly.len() == board.words() {
             return None;
         }
         let fewer = exactly.last()?;
-        let more = words().map(|w| words().any(|v| fewer[v] && board.may_follow(carrier, w, v))).collect();
+        let more = follow.iter().map(|next| next.iter().any(|&v| fewer[v])).collect();
         exactly.push(more);
     }
     let mut route = vec![standing];
     for fewer in exactly.iter().rev().skip(1) {
         let last = *route.last()?;
-        route.push(words().find(|&v| fewer[v] && board.may_follow(carrier, last, v))?);
+        route.push(*follow[last].iter().find(|&&v| fewer[v])?);
     }
     Some(route)
 }

@@ -10,7 +10,7 @@ int main() {
     std::vector<uint8_t> list(NIZKABEL_LIST_ROOM);
     uint32_t out[2];
     const uint32_t verdict = nizkabel_key(board.data(), board.size(), plan.data(), plan.size(), list.data(), list.size(), out);
-    if (verdict != NIZKABEL_ORDERED && verdict != NIZKABEL_BLOCKED && verdict != NIZKABEL_ONE_BLOCKED) {
+    if (verdict != NIZKABEL_ORDERED && verdict != NIZKABEL_BLOCKED) {
         std::printf("refused %u\n", verdict);
         return 1;
     }

@@ -41,8 +41,7 @@ enum nizkabel_number {
     NIZKABEL_APART = 9,           /* points that don't hang together */
     NIZKABEL_SHORT_PLAN = 10,     /* plan lent for under C x (2 + 2 x Z) words */
     NIZKABEL_SHORT_LIST = 11,     /* list lent for under C numbers */
-    NIZKABEL_BLOCKED = 20,        /* two or more carriers are blocked */
-    NIZKABEL_ONE_BLOCKED = 21,    /* exactly one is */
+    NIZKABEL_BLOCKED = 20,        /* key: some carrier is blocked, and then two or more are */
     NIZKABEL_BAD_SHEET = 30,      /* empty, starts with neither 0 nor 1, or an entry with under two words, a count of 0 or past the end */
     NIZKABEL_NOT_OUT = 31,        /* the carrier isn't still out */
     NIZKABEL_BAD_WORD = 32,       /* its first word isn't where it stands, or a word breaks the rules or goes on from home */
@@ -51,7 +50,7 @@ enum nizkabel_number {
     NIZKABEL_FALSE_CLAIM = 35     /* a false claim of blocked */
 };
 
-/* Draws the key of a board. Gives 0, 20 or 21, or 1 to 11 where it is turned back. The plan's words and the blocked carriers' numbers are
+/* Draws the key of a board. Gives 0 or 20, or 1 to 11 where it is turned back. The plan's words and the blocked carriers' numbers are
  * written from the start of plan and list; past them, and on 1 to 11, both stay as they were. out[0] is the count of words in the plan,
  * out[1] the count of numbers in the list; both are 0 on 1 to 11. */
 uint32_t nizkabel_key(const uint8_t *board, size_t board_len, uint16_t *plan, size_t plan_len, uint8_t *list, size_t list_len, uint32_t out[2]);

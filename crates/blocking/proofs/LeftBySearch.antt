@@ -1,27 +1,25 @@
 -- Left by the search, left by the collapse: where none can go any more, the points joined to home over free zones are closed as home's set is.
 -- So home's set lies within them, and a carrier that leaves at one of its points would have gone.
 use Prim.Native.Nat.{ℕ, _*_, _<_}
-use mathlib.Core.List.{List, [], _∷_}
+use mathlib.Core.List.{List, []}
 use mathlib.Core.Path.{_≡_, refl, sym, _∙_, ap, subst}
 use mathlib.Core.Logic.{_⊎_, inl, inr}
-use mathlib.Core.Bool.{Bool, true, false, true≢false}
+use mathlib.Core.Bool.{Bool, true, false}
 use Rattle.model.specs.Track.{Track, Linked, here, over, zoneOf, rev, start, leave}
 use Rattle.model.specs.Position.{Position, at, carrierOf, isFree, Stands, standing}
 use Rattle.model.specs.Labels.{label}
 use Rattle.model.specs.Accepted.{Laid}
-use Rattle.rules.specs.Routes.{UngatedStep, goes, route}
 use Rattle.rules.specs.Tries.{NoneCanGo}
 use Rattle.rules.specs.Collapse.{freeParts, loopIn, turns}
 use Rattle.model.proofs.WordLaws.{zone-rev, rev-below, zone-below, leave-rev, same-zone}
-use Rattle.model.proofs.PositionLaws.{stands-carrier, stands-below, stands-not-free}
+use Rattle.model.proofs.PositionLaws.{stands-below}
 use Rattle.order.proofs.Within.{Within, stands-before}
-use Rattle.homegate.proofs.RouteCut.{route-cut}
 use Rattle.turning.specs.Walks.{Walk}
-use Rattle.turning.proofs.WalkLaws.{apart-outside, widen, walk-of-linked}
+use Rattle.turning.proofs.WalkLaws.{widen}
 use Rattle.blocking.proofs.Standings.{standing-zone, within-free, still-stands, held-stands}
 use Rattle.blocking.proofs.HomeSet.{Closed, HomeSet}
 use Rattle.blocking.proofs.Loops.{turns-loop, loop-turns}
-use Rattle.blocking.proofs.Onwards.{along-some, walk-home, Homeward}
+use Rattle.blocking.proofs.WaysHome.{goes-on, goes-back}
 
 module _ {t : Track} {p q : Position} (laid : Laid t p) (within : Within q p) (none : NoneCanGo t q) where
   -- joined to home over free zones of q
@@ -33,45 +31,18 @@ module _ {t : Track} {p q : Position} (laid : Laid t p) (within : Within q p) (n
 
   -- a carrier that leaves at such a point could go
   leaves-far : {c w : ℕ} → Stands q c w → Near (leave t w) → ⊥
-  leaves-far {c} {w} s near =
-      let k : (ws : List ℕ) × Walk t (isFree q) (leave t w) ws (t .home) = walk-of-linked t (isFree q) near in
-      let r : Homeward t q c w = walk-home t q c (k .1) w refl (apart-outside w (stands-not-free s) (k .1)) in
-      none c (route-cut (route s (r .1)))
+  leaves-far {c} s near = none c (goes-on s near)
 
-  -- so could one that turns, where it starts at such a point: by turning in its part and back through its own zone
+  -- so could one that turns, where it starts at such a point
   starts-far : {c w : ℕ} → Stands q c w → turns t p (freeParts t p) (zoneOf w) ≡ true → Near (start t w) → ⊥
   starts-far {c} {w} s e near =
-      none c (route-cut (route s (turned .1)))
+      none c (goes-back s (word-of s) (widen t (isFree p) (isFree q) (within-free within) (turn .1)) (turn .2) near)
     where
       loop : loopIn t p (freeParts t p) (label (freeParts t p) (leave t w)) ≡ true
       loop = sym (turns-loop t (freeParts t p) (stands-before within s)) ∙ e
 
       turn : (ws : List ℕ) × Walk t (isFree p) (leave t w) ws (leave t w) × (ws ≡ [] → ⊥)
       turn = loop-turns laid (leave t w) (laid .inside (rev w) (rev-below (t .zones) w (word-of s))) loop
-
-      turn-now : Walk t (isFree q) (leave t w) (turn .0) (leave t w)
-      turn-now = widen t (isFree p) (isFree q) (within-free within) (turn .1)
-
-      rest : (ws : List ℕ) × Walk t (isFree q) (start t w) ws (t .home)
-      rest = walk-of-linked t (isFree q) near
-
-      held-back : isFree q (zoneOf (rev w)) ≡ false
-      held-back = subst (λ (z : ℕ). isFree q z ≡ false) (sym (zone-rev w)) (stands-not-free s)
-
-      back : Homeward t q c (rev w)
-      back = walk-home t q c (rest .1) (rev w) (leave-rev t w) (apart-outside (rev w) held-back (rest .1))
-
-      own : (x : ℕ) → isFree q (zoneOf x) ≡ true → leave t x ≡ leave t w → UngatedStep t q c x (rev w)
-      own x f l =
-          record {
-            word = rev-below (t .zones) w (word-of s);
-            touches = sym l;
-            another = λ z. true≢false (sym f ∙ ap (isFree q) (sym z) ∙ held-back);
-            clear = inr (ap carrierOf (ap (at q) (zone-rev w)) ∙ stands-carrier s);
-          }
-
-      turned : Homeward t q c w
-      turned = along-some t q c turn-now (turn .2) w refl (apart-outside w (stands-not-free s) turn-now) (λ x f l. (rev w ∷ back .0, goes (own x f l) (back .1)))
 
   -- over a free zone of q, either way
   back-over : (w : ℕ) → w < 2 * t .zones → isFree q (zoneOf w) ≡ true → Near (leave t w) → Near (start t w)

@@ -2,6 +2,7 @@ pub mod Standings
 pub mod HomeSet
 pub mod Loops
 pub mod Onwards
+pub mod WaysHome
 pub mod LeftBySearch
 pub mod LeftByCollapse
 pub mod NamedOutside

@@ -6,19 +6,19 @@ use mathlib.Core.Path.{_≡_, refl, sym, _∙_, ap, subst}
 use mathlib.Core.Logic.{_⊎_, inl, inr}
 use mathlib.Core.Bool.{Bool, true, false, not, cond, _&&_}
 use native.Mathlib.Omega.{arith}
-use lib.ListN.{length, getD, set, length-map}
-use lib.Seq.{set-getD, ext-getD}
+use lib.ListN.{length, set}
+use lib.Seq.{set-getD}
 use lib.Dec.{eqb}
 use borrow.Author.Tests.{eqb-true, eqb-false, ne-eqb, not-true}
-use Rattle.model.specs.Lists.{numbersBelow, consIf, keep, anyOf, howMany, nTimes}
+use Rattle.model.specs.Lists.{numbersBelow, keep, anyOf, howMany, nTimes}
 use Rattle.model.specs.Track.{Track, start, leave}
 use Rattle.model.specs.Position.{Position, at, carrierOf, isFree, outs, standing}
 use Rattle.model.specs.Labels.{label, joinPoints}
 use Rattle.model.specs.Accepted.{Laid}
 use Rattle.model.proofs.BoolLaws.{both-ways, not-true-false, decided, and-left, and-right, and-both}
-use Rattle.model.proofs.ListLaws.{length-below, mem-below, below-mem, any-below, any-below-false, how-many-mono, how-many-less, foldl-keeps, n-times-keeps}
+use Rattle.model.proofs.ListLaws.{mem-below, below-mem, any-below, any-below-false, how-many-mono, how-many-less, foldl-keeps, n-times-keeps}
 use Rattle.model.proofs.AscendingLaws.{length-ascending}
-use Rattle.model.proofs.PlaceLaws.{map-ext, getD-map-below}
+use Rattle.model.proofs.PlaceLaws.{map-ext, how-many-map, how-many-places}
 use Rattle.model.proofs.PositionLaws.{laid-numbered}
 use Rattle.rules.specs.Collapse.{Merging, leadsHome, mergeIf, mergeZone, mergeAll}
 use Rattle.blocking.proofs.Merging.{marked, MergedFurther, further-same, further-more, Sound, before, sound-before, after, after-marked, merge-cases, leads-held, leads-alike, alike-leads, leaves-in, round, sound-merge, sound-round, further-merge}
@@ -139,31 +139,13 @@ module _ {t : Track} {p : Position} (laid : Laid t p) where
       by (inr fewer) (inl settled) = inl settled
       by (inr fewer) (inr few) = inr (omega arith)
 
--- as many pass among the numbers as among the places that hold them
-count-map : (f : ℕ → Bool) (g : ℕ → ℕ) (l : List ℕ) → howMany f (map g l) ≡ howMany (λ x. f (g x)) l
-count-map f g [] = refl
-count-map f g (a ∷ l) = by (f (g a)) (count-map f g l)
-  where
-    by : (b : Bool) → howMany f (map g l) ≡ howMany (λ x. f (g x)) l → length (consIf b (g a) (keep f (map g l))) ≡ length (consIf b a (keep (λ x. f (g x)) l))
-    by true e = ap suc e
-    by false e = e
-
-by-places : (l : List ℕ) → map (λ i. getD l i 0) (numbersBelow (length l)) ≡ l
-by-places l =
-    ext-getD 0 (map (λ i. getD l i 0) (numbersBelow (length l))) l as-long
-    (λ i h. getD-map-below (λ j. getD l j 0) (length l) i 0 (subst (λ (n : ℕ). i < n) as-long h))
-  where
-    as-long : length (map (λ i. getD l i 0) (numbersBelow (length l))) ≡ length l
-    as-long = length-map (numbersBelow (length l)) (λ i. getD l i 0) ∙ length-below (length l)
-
 module _ {t : Track} {p : Position} (laid : Laid t p) where
   -- as many are out as zones hold a carrier
   outs-counted : length (outs p) ≡ howMany (λ z. not (eqb (carrierOf (at p z)) 0)) (numbersBelow (t .zones))
   outs-counted =
       length-ascending (keep (λ c. not (eqb c 0)) (map carrierOf p))
-      ∙ count-map (λ c. not (eqb c 0)) carrierOf p
-      ∙ ap (howMany (λ v. not (eqb (carrierOf v) 0))) (sym (by-places p))
-      ∙ count-map (λ v. not (eqb (carrierOf v) 0)) (λ i. getD p i 0) (numbersBelow (length p))
+      ∙ how-many-map (λ c. not (eqb c 0)) carrierOf p
+      ∙ how-many-places (λ v. not (eqb (carrierOf v) 0)) p
       ∙ ap (λ (n : ℕ). howMany (λ z. not (eqb (carrierOf (at p z)) 0)) (numbersBelow n)) (laid .each)
 
   few-waiting : waiting t p (before t p) ≤ length (outs p)

@@ -7,7 +7,7 @@ use Rattle.model.specs.Accepted.{Laid}
 use Rattle.rules.specs.Key.{run, named, planWords, verdictOf}
 use Rattle.order.proofs.KeyRun.{run-retires, run-lowest}
 use Rattle.order.proofs.Named.{named-iff-blocked, named-ascending, unnamed-iff-ordered}
-use Rattle.order.proofs.Verdicts.{zero-none, verdict-ordered, verdict-one-blocked, verdict-two-blocked, verdict-cases}
+use Rattle.order.proofs.Verdicts.{zero-none, verdict-ordered, verdict-none-blocked, verdict-some-blocked, verdict-cases}
 use Rattle.order.proofs.Sizes.{plan-fits}
 use Rattle.marking.proofs.SheetMarked.{empty-of-unnamed}
 use Rattle.demands.specs.Demands.{KeyRight}
@@ -24,8 +24,8 @@ key-right t p laid =
       ordered = verdict-ordered t p laid;
       order-given = λ v. empty-of-unnamed t p laid (unnamed-iff-ordered t p laid .1 (verdict-ordered t p laid .0 v));
       none-named = zero-none (named t p);
-      two-blocked = verdict-two-blocked t p laid;
-      one-blocked = verdict-one-blocked t p laid;
+      none-blocked = verdict-none-blocked t p laid;
+      some-blocked = verdict-some-blocked t p laid;
       verdicts = verdict-cases (named t p);
       blocked = named-iff-blocked t p laid;
       ascending = named-ascending t p laid;

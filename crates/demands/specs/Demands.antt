@@ -13,7 +13,6 @@ use Rattle.rules.specs.Routes.{Entry, Retires, Empty, Ordered, Blocked}
 use Rattle.rules.specs.Tries.{NoneCanGo, Tries, Move, Moves}
 use Rattle.rules.specs.Key.{planWords}
 use Rattle.order.specs.LowestFirst.{LowestFirst}
-use Rattle.order.specs.HowManyBlocked.{OneBlocked, TwoBlocked}
 
 -- demand 2, of a key with this verdict, these words of the plan and these numbers of the list
 pub record KeyRight (t : Track) (p : Position) (verdict : ℕ) (plan list : List ℕ) : Type 0 where
@@ -31,10 +30,10 @@ pub record KeyRight (t : Track) (p : Position) (verdict : ℕ) (plan list : List
   pub order-given : verdict ≡ 0 → Empty last
   -- with verdict 0 there are none named
   pub none-named : verdict ≡ 0 → list ≡ []
-  -- 20 exactly where two or more are blocked, 21 exactly where one is, and nothing else is said
-  pub two-blocked : (verdict ≡ 20) ↔ TwoBlocked t p
-  pub one-blocked : (verdict ≡ 21) ↔ OneBlocked t p
-  pub verdicts : (verdict ≡ 0) ⊎ ((verdict ≡ 20) ⊎ (verdict ≡ 21))
+  -- 0 exactly where none is blocked, 20 exactly where some carrier is, and nothing else is said
+  pub none-blocked : (verdict ≡ 0) ↔ ((c : ℕ) → Blocked t p c → ⊥)
+  pub some-blocked : (verdict ≡ 20) ↔ ((c : ℕ) × Blocked t p c)
+  pub verdicts : (verdict ≡ 0) ⊎ (verdict ≡ 20)
   -- the list is exactly the blocked carriers, ascending
   pub blocked : (c : ℕ) → List·Memᴰ c list ↔ Blocked t p c
   pub ascending : Ascending list

@@ -16,27 +16,20 @@ use Rattle.model.proofs.ReadingLaws.{refusal-small}
 use Rattle.rules.specs.Key.{verdictOf, KeyAnswer, turnedBack, turnsBack, keyFor, keyIn, keyInBy, keyOf, keyOfBy}
 use Rattle.exam.specs.Operations.{Drawn}
 
--- the verdict by how many are blocked
+-- the verdict by whether some are blocked
 
 pub verdict-none : (l : List ℕ) → length l ≡ 0 → 0 ≡ verdictOf l
 verdict-none [] e = refl
 verdict-none (c ∷ l) e = absurd (omega arith)
 
-pub verdict-one : (l : List ℕ) → length l ≡ 1 → 21 ≡ verdictOf l
-verdict-one [] e = absurd (omega arith)
-verdict-one (c ∷ []) e = refl
-verdict-one (c ∷ d ∷ l) e = absurd (omega arith)
-
-pub verdict-more : (l : List ℕ) → (length l ≡ 0 → ⊥) → (length l ≡ 1 → ⊥) → 20 ≡ verdictOf l
-verdict-more [] n m = absurd (n refl)
-verdict-more (c ∷ []) n m = absurd (m refl)
-verdict-more (c ∷ d ∷ l) n m = refl
+pub verdict-some : (l : List ℕ) → (length l ≡ 0 → ⊥) → 20 ≡ verdictOf l
+verdict-some [] n = absurd (n refl)
+verdict-some (c ∷ l) n = refl
 
 -- no verdict is one of 1 to 11
 pub verdict-goes : (l : List ℕ) → turnsBack (verdictOf l) ≡ false
 verdict-goes [] = refl
-verdict-goes (c ∷ []) = refl
-verdict-goes (c ∷ d ∷ l) = refl
+verdict-goes (c ∷ l) = refl
 
 -- and every refusal is
 pub refused-turns-back : (b : List ℕ) → (refusal b ≡ 0 → ⊥) → turnsBack (refusal b) ≡ true

@@ -3,6 +3,7 @@
 use Prim.Native.Nat.{ℕ}
 use mathlib.Core.List.{List}
 use mathlib.Core.Path.{_≡_, sym, ap, _∙_, subst, subst₂}
+use mathlib.Core.Logic.{_↔_}
 use lib.ListN.{length, take, drop}
 use lib.Seq.{take-at}
 use Rattle.model.specs.Lists.{overwritten}
@@ -10,7 +11,10 @@ use Rattle.model.specs.declared.Summary.{Summary}
 use Rattle.model.specs.Track.{Track}
 use Rattle.model.specs.Position.{Position}
 use Rattle.model.specs.Reading.{refusal, trackSaid, positionSaid}
+use Rattle.rules.specs.Routes.{Blocked}
 use Rattle.rules.specs.Key.{KeyAnswer, turnsBack, keyFor, keyForBy, keyIn, keyOf}
+use Rattle.alone.specs.HowManyBlocked.{TwoBlocked}
+use Rattle.alone.proofs.NeverOne.{never-one, some-is-two}
 use Rattle.demands.specs.Demands.{KeyRight, NamedRight}
 use Rattle.demands.proofs.KeyMet.{key-right}
 use Rattle.demands.proofs.NamedMet.{named-right}
@@ -20,7 +24,7 @@ use Rattle.model.specs.Accepted.{Ready}
 use Rattle.exam.specs.Parsed.{KeyGiven, summaryOf}
 use Rattle.exam.specs.Operations.{Drawn, KeyPromise}
 use Rattle.exam.proofs.KeyLaws.{refused-turns-back, key-refused, key-read, key-drawn}
-use Rattle.model.proofs.ReadingLaws.{ready-said}
+use Rattle.model.proofs.ReadingLaws.{accepted-track, ready-said}
 use Rattle.board.proofs.ReadBoard.{trackRead, positionRead, Said, Bytes, number-read}
 
 -- what is said of a board that is turned back
@@ -37,6 +41,8 @@ key-turned-back b plan list {r} e n =
       given = record { verdict-is = rw a m; planned-is = rw a; listed-is = rw a; plan-is = rw a; list-is = rw a };
       right = λ d. absurd (n (m ∙ d .accepted));
       named = λ d. absurd (n (m ∙ d .accepted));
+      never-one = λ k. absurd (n (m ∙ k));
+      two-blocked = λ d. absurd (n (m ∙ d .accepted));
     }
 
 -- what was written is read back by its length
@@ -58,14 +64,22 @@ unfolding keyForBy
 promised b plan list {plan′} {list′} {verdict} {planned} {listed} none ready given =
     record {
       given = given;
-      right = λ d. right-written (trackSaid b) (positionSaid b) (drawn d) (key-right (trackSaid b) (positionSaid b) (ready .bounded .laid));
+      right = right;
       named = λ d. named-written (trackSaid b) (positionSaid b) (drawn d) (named-right (trackSaid b) (positionSaid b) (ready .bounded .laid));
+      never-one = λ e. never-one (trackSaid b) (accepted-track b e) (positionSaid b) (ready .bounded .laid);
+      two-blocked = λ d. (λ v. two .0 (right d .some-blocked .0 v), λ w. right d .some-blocked .1 (two .1 w));
     }
   where
     drawn : Drawn b verdict → KeyGiven (keyFor (trackSaid b) (positionSaid b)) plan list verdict planned listed plan′ list′
     drawn d =
         subst (λ (a : KeyAnswer). KeyGiven a plan list verdict planned listed plan′ list′)
         (key-drawn b (length plan) (length list) (subst (Drawn b) (given .verdict-is) d)) given
+
+    right : Drawn b verdict → KeyRight (trackSaid b) (positionSaid b) verdict (take planned plan′) (take listed list′)
+    right d = right-written (trackSaid b) (positionSaid b) (drawn d) (key-right (trackSaid b) (positionSaid b) (ready .bounded .laid))
+
+    two : ((c : ℕ) × Blocked (trackSaid b) (positionSaid b) c) ↔ TwoBlocked (trackSaid b) (positionSaid b)
+    two = some-is-two (trackSaid b) (accepted-track b none) (positionSaid b) (ready .bounded .laid)
 
 -- the inner key's answer on what was read
 pub key-promised : {b plan list plan′ list′ : List ℕ} {r : Board} {verdict planned listed : ℕ} → Bytes b → Said b r → KeyGiven (keyIn (trackRead r) (positionRead r) (length plan) (length list)) plan list verdict planned listed plan′ list′ → KeyPromise b plan list verdict planned listed plan′ list′

@@ -12,6 +12,7 @@ use Rattle.rules.specs.Key.{keyOf}
 use Rattle.rules.specs.Collapse.{collapseOf}
 use Rattle.rules.specs.Sheet.{Right, markOf}
 use Rattle.exam.specs.Parsed.{KeyGiven, CollapseGiven}
+use Rattle.alone.specs.HowManyBlocked.{OneBlocked, TwoBlocked}
 use Rattle.demands.specs.Demands.{KeyRight, NamedRight}
 
 -- the key meets none of 1 to 11 with this verdict
@@ -27,6 +28,9 @@ pub record KeyPromise (b plan list : List ℕ) (verdict planned listed : ℕ) (p
   pub right : Drawn b verdict → KeyRight (trackSaid b) (positionSaid b) verdict (take planned plan′) (take listed list′)
   -- demand 3, of the named carriers
   pub named : Drawn b verdict → NamedRight (trackSaid b) (positionSaid b) (take listed list′)
+  -- on no accepted board is exactly one carrier blocked, so 20 is said exactly where two or more are
+  pub never-one : refusal b ≡ 0 → OneBlocked (trackSaid b) (positionSaid b) → ⊥
+  pub two-blocked : Drawn b verdict → (verdict ≡ 20) ↔ TwoBlocked (trackSaid b) (positionSaid b)
 
 pub record CollapsePromise (b list : List ℕ) (number listed : ℕ) (list′ : List ℕ) : Type 0 where
   pub given : CollapseGiven (collapseOf b (length list)) list number listed list′

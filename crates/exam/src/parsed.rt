@@ -25,7 +25,6 @@ fn verdict(blocked: usize) -> u32
 {
     match blocked {
         0 => 0,
-        1 => 21,
         _ => 20,
     }
 }

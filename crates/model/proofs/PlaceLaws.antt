@@ -1,16 +1,17 @@
 -- Members of a list by their places.
 -- By induction over the list.
 use Prim.Native.Nat.{ℕ, zero, suc, _+_, _<_}
-use mathlib.Core.Path.{_≡_, refl, sym, _∙_, ap, ap₂}
+use mathlib.Core.Path.{_≡_, refl, sym, _∙_, ap, ap₂, subst}
 use mathlib.Core.Logic.{_⊎_, inl, inr}
 use mathlib.Core.List.{List, [], _∷_, map, Memᴰ·cast, List·Memᴰ, List·Memᴰ·head, List·Memᴰ·tail, List·Memᴰ·not-nil, List·Memᴰ·cases-cons}
 use mathlib.Core.Bool.{Bool, true, false, not}
 use native.Mathlib.Omega.{arith}
 use native.Mathlib.Numerals.{add-one}
-use lib.ListN.{length, getD}
+use lib.ListN.{length, getD, length-map}
+use lib.Seq.{ext-getD}
 use lib.Dec.{eqb}
 use borrow.Author.Tests.{eqb-true, eqb-false, ne-eqb}
-use Rattle.model.specs.Lists.{numbersBelow, consIf, keep}
+use Rattle.model.specs.Lists.{numbersBelow, consIf, keep, howMany}
 use Rattle.model.proofs.ListLaws.{getD-below, keep-all, length-below}
 use Rattle.model.proofs.AscendingLaws.{NoRepeats}
 
@@ -38,6 +39,27 @@ module _ {A : Type 0} where
 
 pub getD-map-below : {B : Type 0} (f : ℕ → B) (n i : ℕ) (e : B) → i < n → getD (map f (numbersBelow n)) i e ≡ f i
 getD-map-below f n i e h = getD-map f (numbersBelow n) 0 e i (rw length-below h) ∙ ap f (getD-below n i 0 h)
+
+-- as many pass among the numbers as among what they stand for
+pub how-many-map : (f : ℕ → Bool) (g : ℕ → ℕ) (l : List ℕ) → howMany f (map g l) ≡ howMany (λ x. f (g x)) l
+how-many-map f g [] = refl
+how-many-map f g (a ∷ l) = by (f (g a)) (how-many-map f g l)
+  where
+    by : (b : Bool) → howMany f (map g l) ≡ howMany (λ x. f (g x)) l → length (consIf b (g a) (keep f (map g l))) ≡ length (consIf b a (keep (λ x. f (g x)) l))
+    by true e = ap suc e
+    by false e = e
+
+by-places : (l : List ℕ) → map (λ i. getD l i 0) (numbersBelow (length l)) ≡ l
+by-places l =
+    ext-getD 0 (map (λ i. getD l i 0) (numbersBelow (length l))) l as-long
+    (λ i h. getD-map-below (λ j. getD l j 0) (length l) i 0 (subst (λ (n : ℕ). i < n) as-long h))
+  where
+    as-long : length (map (λ i. getD l i 0) (numbersBelow (length l))) ≡ length l
+    as-long = length-map (numbersBelow (length l)) (λ i. getD l i 0) ∙ length-below (length l)
+
+-- as many pass in a list as places hold one that passes
+pub how-many-places : (f : ℕ → Bool) (l : List ℕ) → howMany f l ≡ howMany (λ i. f (getD l i 0)) (numbersBelow (length l))
+how-many-places f l = ap (howMany f) (sym (by-places l)) ∙ how-many-map f (λ i. getD l i 0) (numbersBelow (length l))
 
 -- where no number stands twice, taking one off leaves one fewer
 pub keep-one-fewer : (c : ℕ) (l : List ℕ) → NoRepeats l → List·Memᴰ c l → length (keep (λ x. not (eqb c x)) l) + 1 ≡ length l

@@ -1,2 +1,1 @@
 pub mod LowestFirst
-pub mod HowManyBlocked

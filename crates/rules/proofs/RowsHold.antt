@@ -1,4 +1,4 @@
--- Every row of the four tables holds: the starred boards, the table of verdicts, the boards with turning loops, the home gate.
+-- Every row of the five tables holds: the starred boards, the table of verdicts, the boards with turning loops, the home gate, the two-zone rule.
 -- The definitions compute: one `refl` for a whole table. So many rows stand in each, lest an empty table hold.
 use mathlib.Core.List.{flatten}
 use mathlib.Core.Path.{_≡_, refl}
@@ -8,6 +8,7 @@ use Rattle.rules.specs.Starred.{boardT, turnWith, farLoop, starred}
 use Rattle.rules.specs.Table.{table, headed, boardK, zonesFree}
 use Rattle.rules.specs.TurningLoops.{loopAtHome, turningLoops}
 use Rattle.rules.specs.HomeGate.{nearHome, otherHome, homeGate}
+use Rattle.rules.specs.TwoZoneRule.{twoZoneRule}
 
 pub starred-rows : length starred ≡ 10
 unfolding starred
@@ -40,3 +41,11 @@ gate-rows = refl
 pub gate-holds : Hold homeGate
 unfolding homeGate nearHome otherHome loopAtHome boardK boardT flatten given
 gate-holds = refl
+
+pub two-zone-rows : length twoZoneRule ≡ 7
+unfolding twoZoneRule
+two-zone-rows = refl
+
+pub two-zone-hold : Hold twoZoneRule
+unfolding twoZoneRule flatten given
+two-zone-hold = refl

@@ -54,11 +54,10 @@ abbrev pub runOn : Position → Option Entry → (Entry → Run) → Run
 runOn p none rest = record { plan = []; last = p }
 runOn p (some e) rest = record { plan = e ∷ rest e .plan; last = rest e .last }
 
--- 0 ordered, 21 exactly one blocked, 20 two or more
+-- 0 ordered, 20 some carrier blocked
 abbrev pub verdictOf : List ℕ → ℕ
 verdictOf [] = 0
-verdictOf (c ∷ []) = 21
-verdictOf (c ∷ d ∷ cs) = 20
+verdictOf (c ∷ cs) = 20
 
 -- for each carrier in turn its number, the count of words, the words
 unfoldable pub planWords : List Entry → List ℕ

@@ -9,3 +9,4 @@ pub mod Starred
 pub mod Table
 pub mod TurningLoops
 pub mod HomeGate
+pub mod TwoZoneRule

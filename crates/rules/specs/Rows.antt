@@ -6,23 +6,26 @@ use mathlib.Core.Path.{_≡_}
 use Rattle.model.specs.Labels.{parts, joinZones, joinPoints}
 use Rattle.model.specs.Reading.{refusal, tooShort, wrongLength, wrongVersion, outOfRange, wrongCount, badZone, repeated, underTwo, apart, trackSaid, positionSaid}
 use Rattle.rules.specs.Search.{leastFrom, wordsTo, goalIn}
-use Rattle.rules.specs.Key.{KeyAnswer, turnedBack, ungatedSteps, keyOf, keyOfBy, keyInBy, keyForBy, namedBy, runBy, runForBy, firstToGoBy, leastRouteBy, zoneFor, nexts, nextsBy, planWords}
+use Rattle.rules.specs.Key.{KeyAnswer, turnedBack, ungatedSteps, keyOf, keyOfBy, keyInBy, keyFor, keyForBy, namedBy, runBy, runForBy, firstToGoBy, leastRouteBy, zoneFor, nexts, nextsBy, planWords}
 use Rattle.rules.specs.Collapse.{CollapseAnswer, collapseOf, collapseIn, left, mergeAll, mergeZone, joined, turns, loopIn, freeParts}
 use Rattle.rules.specs.Sheet.{markOf, markOfBy, markForBy, markClaimBy, sameList, markEntriesBy, markEntryBy, markEnd, endsHome, byRulesBy, followBy, stillOut}
 
 -- a board, the room lent for plan and list, and what the key and the collapse give; or a board and a sheet with its number; the same with its
--- number by the older rule; or a board, a carrier and a word with the words that the carrier may go to from there, by the older rule and now
+-- number by the older rule; or a board, a carrier and a word with the words that the carrier may go to from there, by the older rule and now;
+-- or a refused board, its number, and the key of the track and the position that its bytes say all the same
 pub data Row : Type 0 where
   onBoard : (bytes : List ℕ) (planRoom listRoom : ℕ) (key : KeyAnswer) (collapse : CollapseAnswer) → Row
   onSheet : (bytes words : List ℕ) (number : ℕ) → Row
   atGate : (bytes words : List ℕ) (older now : ℕ) → Row
   fromWord : (bytes : List ℕ) (carrier word : ℕ) (older now : List ℕ) → Row
+  allTheSame : (bytes : List ℕ) (number : ℕ) (key : KeyAnswer) → Row
 
 pub data Answer : Type 0 where
   ofBoard : KeyAnswer → CollapseAnswer → Answer
   ofSheet : ℕ → Answer
   ofGate : ℕ → ℕ → Answer
   ofWord : List ℕ → List ℕ → Answer
+  ofRefused : ℕ → KeyAnswer → Answer
 
 -- what the definitions give, computed
 unfoldable pub given : Row → Answer
@@ -31,6 +34,7 @@ given (onBoard b m n k c) = ofBoard (keyOf b m n) (collapseOf b n)
 given (onSheet b ws n) = ofSheet (markOf b ws)
 given (atGate b ws o n) = ofGate (markOfBy ungatedSteps b ws) (markOf b ws)
 given (fromWord b c w o n) = ofWord (nextsBy ungatedSteps (trackSaid b) (positionSaid b) c w) (nexts (trackSaid b) (positionSaid b) c w)
+given (allTheSame b n k) = ofRefused (refusal b) (keyFor (trackSaid b) (positionSaid b))
 
 -- what the row says
 abbrev pub said : Row → Answer
@@ -38,6 +42,7 @@ said (onBoard b m n k c) = ofBoard k c
 said (onSheet b ws n) = ofSheet n
 said (atGate b ws o n) = ofGate o n
 said (fromWord b c w o n) = ofWord o n
+said (allTheSame b n k) = ofRefused n k
 
 abbrev pub Hold : List Row → Type 0
 Hold rows = map given rows ≡ map said rows

@@ -6,14 +6,14 @@ use lib.ListN.{length}
 use Rattle.rules.specs.Rows.{Row, onSheet, acceptedBoard, refusedBoard}
 
 -- a zone's bytes: its ends, its carrier and the heading
-abbrev zone : ℕ → ℕ → ℕ → ℕ → List ℕ
+abbrev pub zone : ℕ → ℕ → ℕ → ℕ → List ℕ
 zone a b carrier heading = a ∷ b ∷ carrier ∷ heading ∷ []
 
-abbrev free : ℕ → ℕ → List ℕ
+abbrev pub free : ℕ → ℕ → List ℕ
 free a b = zone a b 0 0
 
 -- a board of so many points
-abbrev laidOut : ℕ → List (List ℕ) → List ℕ
+abbrev pub laidOut : ℕ → List (List ℕ) → List ℕ
 laidOut points zones = 0 ∷ (4 + 4 * length zones) ∷ 1 ∷ points ∷ 0 ∷ length zones ∷ flatten zones
 
 -- board T with another last zone

@@ -21,8 +21,7 @@ use Rattle.board.proofs.ReadBoard.{Bytes}
 
 verdict-small : (l : List ℕ) → verdictOf l < 1000
 verdict-small [] = omega arith
-verdict-small (c ∷ []) = omega arith
-verdict-small (c ∷ d ∷ l) = omega arith
+verdict-small (c ∷ l) = omega arith
 
 module _ {t : Track} {p : Position} (ready : Ready t p) where
   out-small : {c : ℕ} → Out p c → c < 1000

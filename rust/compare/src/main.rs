@@ -1,9 +1,11 @@
 //! Compares the proved library with the second implementation on many boards and sheets, whole: numbers, lengths, every word of plan and
 //! list, and canaries past what may be written. Ends with status 1 at the first difference.
 
+mod blocked;
 mod gate;
 mod loops;
 
+use blocked::BlockedTally;
 use compare::boards::{self, Loops};
 use compare::random::Random;
 use compare::sheets;
@@ -25,6 +27,7 @@ struct Tally {
     full: usize,
     loops: LoopTally,
     gate: GateTally,
+    blocked: BlockedTally,
     verdicts: std::collections::BTreeMap<u32, usize>,
     marks: std::collections::BTreeMap<u32, usize>,
 }
@@ -88,6 +91,32 @@ fn compare_run_on(tally: &mut Tally, board: &Board, sheet: &[u16]) {
     }
 }
 
+/// The carriers blocked on an accepted board.
+fn count_blocked(tally: &mut Tally, board: &Board) -> Vec<u32> {
+    let named = second::named(Rule::HomeGate, board);
+    if !tally.blocked.add(named.len()) {
+        differ("exactly one carrier is blocked", &board.bytes(), format!("{named:?}"));
+    }
+    named
+}
+
+/// On the track of an accepted board a carrier that is alone out, on any word, goes home.
+fn compare_alone(tally: &mut Tally, random: &mut Random, board: &Board) {
+    let word = random.below(board.words());
+    let mut alone = board.clone();
+    for (z, zone) in alone.zones.iter_mut().enumerate() {
+        (zone.carrier, zone.heading) = if z == word / 2 { (1, (word % 2) as u32) } else { (0, 0) };
+    }
+    let bytes = alone.bytes();
+    compare_key(tally, &bytes, 2 + board.words(), 1);
+    let key = second::key(&bytes, 2 + board.words(), 1);
+    if key.verdict != 0 {
+        differ("a carrier alone out is blocked", &bytes, format!("{key:?}"));
+    }
+    let through_own = key.plan[2..].iter().filter(|&&v| v as usize / 2 == word / 2).count();
+    *(if through_own == 1 { &mut tally.blocked.straight } else { &mut tally.blocked.turned }) += 1;
+}
+
 fn compare_board(tally: &mut Tally, random: &mut Random, board: &Board) {
     let bytes = board.bytes();
     let (out, zones) = (board.carriers().len(), board.zones.len());
@@ -102,7 +131,8 @@ fn compare_board(tally: &mut Tally, random: &mut Random, board: &Board) {
         compare_key(tally, &bytes, room.saturating_sub(1), out.saturating_sub(random.below(2)));
         compare_key(tally, &bytes, room, out.saturating_sub(1));
     }
-    let named = second::named(Rule::HomeGate, board);
+    compare_alone(tally, random, board);
+    let named = count_blocked(tally, board);
     tally.loops.add(board, &named);
     let tried = sheets::by_tries(random, board, Rule::HomeGate);
     let run_on = sheets::by_tries(random, board, Rule::Older);
@@ -155,12 +185,15 @@ fn compare_small(tally: &mut Tally, board: &Board) {
     let sheet = if key.list.is_empty() { [vec![0], key.plan].concat() } else { sheets::claim(&key.list) };
     compare_mark(tally, &bytes, &sheet);
     if accepted {
+        count_blocked(tally, board);
         compare_exhaustive(tally, board);
         for carrier in board.carriers() {
             for route in second::routes(Rule::Older, board, carrier) {
                 compare_run_on(tally, board, &sheets::entry(carrier, &route));
             }
         }
+    } else {
+        tally.blocked.refused_with_one += (second::named(Rule::HomeGate, board).len() == 1) as usize;
     }
 }
 
@@ -207,7 +240,10 @@ fn main() {
         let board = boards::accepted(&mut random, points, zones, sparse, loops);
         let bytes = boards::damaged(&mut random, &board);
         tally.boards += 1;
-        tally.accepted += second::read(&bytes).is_ok() as usize;
+        if let Ok(board) = second::read(&bytes) {
+            tally.accepted += 1;
+            count_blocked(&mut tally, &board);
+        }
         let (plan_room, list_room) = (random.below(300), random.below(12));
         compare_key(&mut tally, &bytes, plan_room, list_room);
         compare_mark(&mut tally, &bytes, &sheets::noise(&mut random));
@@ -226,12 +262,17 @@ fn main() {
         println!("too few sheets with routes that run on through home: {:?}", tally.gate);
         std::process::exit(1);
     }
+    if !tally.blocked.fair() {
+        println!("too few boards with so many blocked carriers: {:?}", tally.blocked);
+        std::process::exit(1);
+    }
     println!(
         "{} boards ({} accepted), {} sheets ({} passed), {} boards by exhaustion, {} of them full: no difference",
         tally.boards, tally.accepted, tally.sheets, tally.passed, tally.exhaustive, tally.full
     );
     println!("turning loops: {:?}", tally.loops);
     println!("sheets that the home gate turns to 32: {:?}", tally.gate);
+    println!("blocked carriers: {:?}", tally.blocked);
     println!("verdicts {:?}", tally.verdicts);
     println!("marks {:?}", tally.marks);
 }

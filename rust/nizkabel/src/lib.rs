@@ -21,7 +21,7 @@ pub const PLAN_ROOM: usize = 18_624;
 /// Numbers of a list that are room enough for every board.
 pub const LIST_ROOM: usize = 96;
 
-/// What the key gives: the verdict (0 ordered, 20 two or more blocked, 21 one blocked, 1 to 11 turned back), the count of words written to
+/// What the key gives: the verdict (0 ordered, 20 some carrier blocked, 1 to 11 turned back), the count of words written to
 /// the plan, the count of numbers written to the list.
 #[derive(Clone, Copy, Debug, PartialEq, Eq)]
 pub struct Key {

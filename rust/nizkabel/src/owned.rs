@@ -32,7 +32,7 @@ pub struct Entry {
     pub words: Vec<u16>,
 }
 
-/// The key of an accepted board: the verdict (0 ordered, 20 two or more blocked, 21 one blocked), the carriers that go home in their
+/// The key of an accepted board: the verdict (0 ordered, 20 some carrier blocked), the carriers that go home in their
 /// order, and the blocked ones ascending.
 #[derive(Clone, Debug, PartialEq, Eq)]
 pub struct Key {

@@ -2,7 +2,7 @@
 
 use nizkabel::owned::{self, Entry, Refused};
 use second::document_01::{k, refused, starred, SHEETS_FOR_K};
-use second::document_02::{at_gate, loops_refused, to_loop, turning_loops, SHEETS_FOR_LOOP};
+use second::document_02::{at_gate, loops_refused, one_blocked, to_loop, turning_loops, two_zones, SHEETS_FOR_LOOP};
 
 fn plan(entries: &[Entry]) -> Vec<u16> {
     entries.iter().flat_map(|e| [e.carrier, e.words.len() as u16].into_iter().chain(e.words.iter().copied())).collect()
@@ -10,7 +10,7 @@ fn plan(entries: &[Entry]) -> Vec<u16> {
 
 #[test]
 fn boards() {
-    for (board, verdict, words, blocked) in starred().into_iter().chain(turning_loops()) {
+    for (board, verdict, words, blocked) in starred().into_iter().chain(turning_loops()).chain(two_zones()) {
         let key = owned::key(&board).unwrap();
         let list: Vec<u16> = key.blocked.iter().map(|&c| c.into()).collect();
         assert_eq!((key.verdict, &plan(&key.entries)[..], &list[..]), (verdict, words, blocked));
@@ -35,7 +35,7 @@ fn refusals() {
         let error: Box<dyn std::error::Error> = refusal(&board, number).into();
         told.push(error.to_string());
     }
-    for (board, number) in loops_refused() {
+    for (board, number) in loops_refused().into_iter().chain(one_blocked()) {
         refusal(&board, number);
     }
     assert!(told.iter().enumerate().all(|(i, text)| text.starts_with(&format!("refused {}: ", i + 1))));

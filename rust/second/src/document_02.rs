@@ -71,3 +71,23 @@ pub fn at_gate() -> Vec<(Vec<u8>, &'static [u16], u32, u32)> {
         (other_home, &[0, 7, 2, 1, 2], 0, 0),
     ]
 }
+
+/// Two free zones between home and point 1, then these.
+fn beyond(points: u8, zones: &[[u8; 4]]) -> Vec<u8> {
+    laid_out(points, &[&[[0, 1, 0, 0]; 2], zones].concat())
+}
+
+/// Request g: accepted boards, none with exactly one blocked carrier.
+pub fn two_zones() -> Vec<Row> {
+    vec![
+        (beyond(3, &[[1, 2, 5, 0], [1, 2, 0, 0]]), 0, &[5, 3, 4, 7, 1], &[]),
+        (beyond(3, &[[1, 2, 5, 0], [2, 2, 0, 0]]), 0, &[5, 4, 4, 6, 5, 1], &[]),
+        (beyond(3, &[[1, 2, 5, 0], [1, 2, 6, 0]]), 20, &[], &[5, 6]),
+        (beyond(3, &[[1, 2, 5, 0], [2, 2, 6, 0]]), 20, &[], &[5, 6]),
+    ]
+}
+
+/// Request g: boards that are turned back, on which carrier 5 would be blocked alone.
+pub fn one_blocked() -> Vec<(Vec<u8>, u32)> {
+    vec![(beyond(3, &[[1, 2, 5, 0]]), 8), (beyond(4, &[[2, 3, 5, 0], [2, 3, 0, 0]]), 9)]
+}

@@ -85,11 +85,7 @@ pub(crate) fn plan_with(board: &Board, least: impl Fn(&Board, u32) -> Option<Vec
 }
 
 pub(crate) fn verdict(list: &[u32]) -> u32 {
-    match list.len() {
-        0 => 0,
-        1 => 21,
-        _ => 20,
-    }
+    if list.is_empty() { 0 } else { 20 }
 }
 
 fn plan_by(rule: Rule, board: &Board) -> (Vec<u16>, Board) {

@@ -1,12 +1,12 @@
 //! The boards and sheets of documents 01 and 02 by the second implementation.
 
 use second::document_01::{k, refused, starred, SHEETS_FOR_K};
-use second::document_02::{at_gate, loops_refused, to_loop, turning_loops, SHEETS_FOR_LOOP};
+use second::document_02::{at_gate, loops_refused, one_blocked, to_loop, turning_loops, two_zones, SHEETS_FOR_LOOP};
 use second::{collapse, key, key_by, mark, mark_by, read, Rule};
 
 #[test]
 fn boards() {
-    for (board, verdict, plan, blocked) in starred().into_iter().chain(turning_loops()) {
+    for (board, verdict, plan, blocked) in starred().into_iter().chain(turning_loops()).chain(two_zones()) {
         let drawn = key(&board, 96, 8);
         let list: Vec<u32> = blocked.iter().map(|&c| c.into()).collect();
         assert_eq!((drawn.verdict, &drawn.plan[..], &drawn.list[..]), (verdict, plan, &list[..]));
@@ -20,7 +20,7 @@ fn refusals_and_marks() {
     for (row, board) in (1..).zip(refused()) {
         assert_eq!(read(&board).err(), Some(row));
     }
-    for (board, number) in loops_refused() {
+    for (board, number) in loops_refused().into_iter().chain(one_blocked()) {
         assert_eq!(read(&board).err(), Some(number));
     }
     assert_eq!(key(&k(), 5, 1).verdict, 10);

@@ -1,7 +1,7 @@
 -- `parsed::verdict` meets its contract: it gives the verdict of every list with so many numbers.
--- Each arm of the match tells how long such a list is; KeyLaws has the verdict for none, for one and for more.
+-- Each arm of the match tells whether such a list is empty; KeyLaws has the verdict for none and for some.
 use mathlib.Core.Path.{sym, _∙_}
-use Rattle.exam.proofs.KeyLaws.{verdict-none, verdict-one, verdict-more}
+use Rattle.exam.proofs.KeyLaws.{verdict-none, verdict-some}
 use Rattle.exam.proofs.parsed.verdict.Statement.{statement}
 use Rattle.exam.proofs.parsed.verdict.Tie as tie
 
@@ -9,10 +9,7 @@ returns : tie.Need-returns
 returns c list e = verdict-none list (e ∙ c .match .keys1)
 
 returns-2 : tie.Need-returns-2
-returns-2 c list e = verdict-one list (e ∙ c .match .keys2)
-
-returns-3 : tie.Need-returns-3
-returns-3 c list e = verdict-more list (λ k. c .match .rest .0 .1 (sym e ∙ k)) (λ k. c .match .rest .1 (sym e ∙ k))
+returns-2 c list e = verdict-some list (λ k. c .match .rest .1 (sym e ∙ k))
 
 pub verdict-spec : {M : Type 1} → statement M
-verdict-spec = tie.close (tie.spec returns returns-2 returns-3)
+verdict-spec = tie.close (tie.spec returns returns-2)

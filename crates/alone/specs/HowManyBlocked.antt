@@ -1,5 +1,4 @@
--- What the verdicts 21 and 20 say: exactly one carrier is blocked, two or more are.
--- Blocked is the rules' own relation: out, and in no sequence of retirements.
+-- Exactly one carrier is blocked; two or more are. Blocked is the rules' own relation: out, and in no sequence of retirements.
 use Prim.Native.Nat.{ℕ}
 use mathlib.Core.Path.{_≡_}
 use Rattle.model.specs.Track.{Track}

@@ -1,0 +1,2 @@
+pub mod HowManyBlocked
+pub mod NeverOne

@@ -1,5 +1,5 @@
--- Zone ends at the points of a part: where each of n points has at least two, and besides both ends of the part's zones there is only one more,
--- the part has at least n zones. 2 × n ≤ 2 × zones + 1.
+-- Zone ends at the points of a part: k × points at least, where each point has k; at most 2 × zones + 1, where besides the two ends of each of its
+-- zones there is one more. The first by one point more at a time, the second by the words that start there.
 use Prim.Native.Nat.{ℕ, zero, suc, _+_, _*_, _≤_, _<_}
 use mathlib.Core.List.{List, [], _∷_}
 use mathlib.Core.Path.{_≡_, refl, sym, _∙_, ap}
@@ -34,7 +34,7 @@ counted-more b ps l new = how-many-either (λ x. eqb x b) (among ps) l apart ∙
         by true e = ap (λ (y : ℕ). elem y ps) (eqb-true x b e) ∙ new
         by false e = refl
 
--- where each point of a part stands in a list at least k times, the list has k times as many numbers
+-- where each point of a part stands in a list at least k times, points of the part stand there at least k × points times
 pub often-each : {t : Track} {passes : ℕ → Bool} {v : ℕ} {zs ps : List ℕ} → Part t passes v zs ps → (l : List ℕ) {k : ℕ} → ((q : ℕ) → elem q ps ≡ true → k ≤ howMany (eqb q) l) → k * length ps ≤ howMany (among ps) l
 often-each {v = v} alone l {k} h = omega (arith, counted-more v [] l refl, h v (elem-here v []), mul-one k)
 often-each {t} (new-point {ps = ps} w b e s n part) l {k} h =

@@ -1,6 +1,7 @@
 -- A carrier that is alone out can go: with every other carrier gone, the two-zone rule gives a way home or a loop to turn in.
--- X is the free part where it leaves. With home in X it goes straight on. Else X hasn't where it starts either, which is then joined to home; each
--- point of X has two zone ends, of which only one is no free zone's; so X has as many zones as points, and the carrier turns there and comes back.
+-- X is the free part where it leaves. With home in X it goes straight on. Otherwise the point where it starts isn't in X either, and is joined to
+-- home. Each point of X has two zone ends or more, and of all these only one isn't a free zone's; so X has as many zones as points, and the carrier
+-- turns there and comes back through its own zone.
 use Prim.Native.Nat.{ℕ, _*_, _≤_, _<_}
 use mathlib.Core.Path.{_≡_, refl, sym, _∙_, ap, subst}
 use mathlib.Core.Logic.{_⊎_, inl, inr}
@@ -66,22 +67,22 @@ module _ {t : Track} {p : Position} (laid : Laid t p) {c w : ℕ} (s : Stands p 
   X : WholePart t (isFree p) (leave t w)
   X = whole t (isFree p) (leave t w)
 
-  module _ (two : TwoZones t) (count : length (t .ends) ≡ 2 * t .zones) (home-out : elem (t .home) (X .points) ≡ false) (start-out : elem (start t w) (X .points) ≡ false) where
+  module _ (two : TwoZones t) (count : length (t .ends) ≡ 2 * t .zones) (home-outside : elem (t .home) (X .points) ≡ false) (start-outside : elem (start t w) (X .points) ≡ false) where
     two-each : (q : ℕ) → elem q (X .points) ≡ true → HasTwoZones t q
     two-each q i =
         two q
         (linked-below t (laid .inside) (laid .inside (rev w) (rev-below (t .zones) w below)) (inside-linked X q i))
-        (λ e. both-ways i (ap (among (X .points)) e ∙ home-out))
+        (λ e. both-ways i (ap (among (X .points)) e ∙ home-outside))
 
-    own-out : elem (zoneOf (rev w)) (X .zones) ≡ false
-    own-out = not-true-false (elem (zoneOf (rev w)) (X .zones)) (λ i. both-ways (zones-pass (X .part) (zoneOf (rev w)) i) (ap (isFree p) (zone-rev w) ∙ stands-not-free s))
+    own-outside : elem (zoneOf (rev w)) (X .zones) ≡ false
+    own-outside = not-true-false (elem (zoneOf (rev w)) (X .zones)) (λ i. both-ways (zones-pass (X .part) (zoneOf (rev w)) i) (ap (isFree p) (zone-rev w) ∙ stands-not-free s))
 
     -- a word that starts in X is of a zone of X, or goes back through its own zone
     of-part : (u : ℕ) → u < 2 * t .zones → elem (start t u) (X .points) ≡ true → (u ≡ rev w) ⊎ (elem (zoneOf u) (X .zones) ≡ true)
     of-part u h i = by (isFree p (zoneOf u)) refl
       where
         back : (u ≡ w) ⊎ (u ≡ rev w) → (u ≡ rev w) ⊎ (elem (zoneOf u) (X .zones) ≡ true)
-        back (inl e) = both-ways i (ap (λ (v : ℕ). elem (start t v) (X .points)) e ∙ start-out)
+        back (inl e) = both-ways i (ap (λ (v : ℕ). elem (start t v) (X .points)) e ∙ start-outside)
         back (inr e) = inl e
 
         by : (b : Bool) → isFree p (zoneOf u) ≡ b → (u ≡ rev w) ⊎ (elem (zoneOf u) (X .zones) ≡ true)
@@ -91,20 +92,20 @@ module _ {t : Track} {p : Position} (laid : Laid t p) {c w : ℕ} (s : Stands p 
     as-many-zones : length (X .points) ≤ length (X .zones)
     as-many-zones =
         omega
-        (arith, often-each (X .part) (t .ends) two-each, ends-few t count (among (X .points)) (among (X .zones)) (rev w) (rev-below (t .zones) w below) own-out of-part, zones-counted (X .part))
+        (arith, often-each (X .part) (t .ends) two-each, ends-few t count (among (X .points)) (among (X .zones)) (rev w) (rev-below (t .zones) w below) own-outside of-part, zones-counted (X .part))
 
     turn-in-part : Joined (start t w) (t .home) → CanGo t p c
     turn-in-part near =
         let r : Turn t (X .zones) (leave t w) = turn (X .part) as-many-zones in
         goes-back s below (widen t (among (X .zones)) (isFree p) (zones-pass (X .part)) (r .1)) (r .2) near
 
-  pub goes-alone : TwoZones t → length (t .ends) ≡ 2 * t .zones → HangsTogether t → CanGo t p c
-  goes-alone two count hangs = by (home-joined hangs) (decided (elem (t .home) (X .points)))
+  pub goes-by-two-zones : TwoZones t → length (t .ends) ≡ 2 * t .zones → HangsTogether t → CanGo t p c
+  goes-by-two-zones two count hangs = by (home-joined hangs) (decided (elem (t .home) (X .points)))
     where
-      start-out : Joined (start t w) (t .home) → elem (t .home) (X .points) ≡ false → elem (start t w) (X .points) ≡ false
-      start-out near n = not-true-false (elem (start t w) (X .points)) (λ i. both-ways (linked-inside X near i) n)
+      as-home : Joined (start t w) (t .home) → elem (t .home) (X .points) ≡ false → elem (start t w) (X .points) ≡ false
+      as-home near n = not-true-false (elem (start t w) (X .points)) (λ i. both-ways (linked-inside X near i) n)
 
       by : EitherSide (t .home) → (elem (t .home) (X .points) ≡ true) ⊎ (elem (t .home) (X .points) ≡ false) → CanGo t p c
       by (inl near) h = goes-on s near
       by (inr near) (inl i) = goes-on s (inside-linked X (t .home) i)
-      by (inr near) (inr n) = turn-in-part two count n (start-out near n) near
+      by (inr near) (inr n) = turn-in-part two count n (as-home near n) near

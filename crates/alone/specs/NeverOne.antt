@@ -12,11 +12,11 @@ use Rattle.rules.specs.Routes.{Blocked}
 use Rattle.rules.specs.Tries.{CanGo}
 use Rattle.alone.specs.HowManyBlocked.{OneBlocked, TwoBlocked}
 
--- a point has two zones or more; they are counted by their ends, so a turning loop is two
+-- point q has two zones or more; they are counted by their ends, so a turning loop counts twice
 abbrev pub HasTwoZones : Track → ℕ → Type 0
 HasTwoZones t q = 2 ≤ howMany (eqb q) (t .ends)
 
--- the two-zone rule, row 8 of document 01: each point but home has
+-- the two-zone rule, row 8 of document 01: each point but home has two zones or more
 abbrev pub TwoZones : Track → Type 0
 TwoZones t = (q : ℕ) → q < t .points → (q ≡ t .home → ⊥) → HasTwoZones t q
 

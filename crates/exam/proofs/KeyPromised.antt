@@ -66,7 +66,7 @@ promised b plan list {plan′} {list′} {verdict} {planned} {listed} none ready
       given = given;
       right = right;
       named = λ d. named-written (trackSaid b) (positionSaid b) (drawn d) (named-right (trackSaid b) (positionSaid b) (ready .bounded .laid));
-      never-one = λ e. never-one (trackSaid b) (accepted-track b e) (positionSaid b) (ready .bounded .laid);
+      never-one = λ e. never-one (trackSaid b) (accepted-track b none) (positionSaid b) (ready .bounded .laid);
       two-blocked = λ d. (λ v. two .0 (right d .some-blocked .0 v), λ w. right d .some-blocked .1 (two .1 w));
     }
   where

@@ -40,7 +40,7 @@ module _ {A : Type 0} where
 pub getD-map-below : {B : Type 0} (f : ℕ → B) (n i : ℕ) (e : B) → i < n → getD (map f (numbersBelow n)) i e ≡ f i
 getD-map-below f n i e h = getD-map f (numbersBelow n) 0 e i (rw length-below h) ∙ ap f (getD-below n i 0 h)
 
--- as many pass among the numbers as among what they stand for
+-- as many images pass as numbers whose image passes
 pub how-many-map : (f : ℕ → Bool) (g : ℕ → ℕ) (l : List ℕ) → howMany f (map g l) ≡ howMany (λ x. f (g x)) l
 how-many-map f g [] = refl
 how-many-map f g (a ∷ l) = by (f (g a)) (how-many-map f g l)
@@ -49,6 +49,7 @@ how-many-map f g (a ∷ l) = by (f (g a)) (how-many-map f g l)
     by true e = ap suc e
     by false e = e
 
+-- a list is what its places hold, in order
 by-places : (l : List ℕ) → map (λ i. getD l i 0) (numbersBelow (length l)) ≡ l
 by-places l =
     ext-getD 0 (map (λ i. getD l i 0) (numbersBelow (length l))) l as-long

@@ -27,7 +27,7 @@ within-both {q} {p} a b = ext-getD 0 q p (a .as-long) (λ z _. go z (a .kept z) 
     go z (inr e) (inl f) = sym f
     go z (inr e) (inr f) = e ∙ sym f
 
-no-members : (l : List ℕ) → ((c : ℕ) → List·Memᴰ c l → ⊥) → l ≡ []
+pub no-members : (l : List ℕ) → ((c : ℕ) → List·Memᴰ c l → ⊥) → l ≡ []
 no-members [] h = refl
 no-members (c ∷ l) h = absurd (h c (List·Memᴰ·head refl))
 

@@ -10,15 +10,11 @@ use Rattle.model.specs.Position.{Position}
 use Rattle.model.specs.Accepted.{Laid}
 use Rattle.rules.specs.Routes.{Ordered, Blocked}
 use Rattle.rules.specs.Key.{named, verdictOf}
-use Rattle.order.proofs.Named.{named-blocked, blocked-named, unnamed-ordered, ordered-unnamed}
+use Rattle.order.proofs.Named.{no-members, named-blocked, blocked-named, unnamed-ordered, ordered-unnamed}
 
 pub zero-none : (l : List ℕ) → verdictOf l ≡ 0 → l ≡ []
 zero-none [] e = refl
 zero-none (c ∷ l) e = absurd (omega arith)
-
-none-zero : (l : List ℕ) → ((c : ℕ) → List·Memᴰ c l → ⊥) → verdictOf l ≡ 0
-none-zero [] h = refl
-none-zero (c ∷ l) h = absurd (h c (List·Memᴰ·head refl))
 
 twenty-some : (l : List ℕ) → verdictOf l ≡ 20 → (c : ℕ) × List·Memᴰ c l
 twenty-some [] e = absurd (omega arith)
@@ -40,7 +36,7 @@ module _ (t : Track) (p : Position) (laid : Laid t p) where
   pub verdict-none-blocked : (verdictOf (named t p) ≡ 0) ↔ ((c : ℕ) → Blocked t p c → ⊥)
   verdict-none-blocked = (
     λ e c b. List·Memᴰ·not-nil (rw (zero-none (named t p) e) at (blocked-named t p laid b)),
-    λ h. none-zero (named t p) (λ c m. h c (named-blocked t p laid m)),
+    λ h. ap verdictOf (no-members (named t p) (λ c m. h c (named-blocked t p laid m))),
   )
 
   pub verdict-some-blocked : (verdictOf (named t p) ≡ 20) ↔ ((c : ℕ) × Blocked t p c)

@@ -1,5 +1,5 @@
 -- Rows of tables: an input of the key and the collapse, or of the marker, with what the documents give it; where the home gate shows, by the
--- older moving rule too. The definitions are computed on each row: proofs/RowsHold.antt.
+-- older moving rule too; and what the key of a refused board would be. The definitions are computed on each row: proofs/RowsHold.antt.
 use Prim.Native.Nat.{ℕ}
 use mathlib.Core.List.{List, [], map}
 use mathlib.Core.Path.{_≡_}
@@ -18,7 +18,7 @@ pub data Row : Type 0 where
   onSheet : (bytes words : List ℕ) (number : ℕ) → Row
   atGate : (bytes words : List ℕ) (older now : ℕ) → Row
   fromWord : (bytes : List ℕ) (carrier word : ℕ) (older now : List ℕ) → Row
-  allTheSame : (bytes : List ℕ) (number : ℕ) (key : KeyAnswer) → Row
+  onRefused : (bytes : List ℕ) (number : ℕ) (key : KeyAnswer) → Row
 
 pub data Answer : Type 0 where
   ofBoard : KeyAnswer → CollapseAnswer → Answer
@@ -34,7 +34,7 @@ given (onBoard b m n k c) = ofBoard (keyOf b m n) (collapseOf b n)
 given (onSheet b ws n) = ofSheet (markOf b ws)
 given (atGate b ws o n) = ofGate (markOfBy ungatedSteps b ws) (markOf b ws)
 given (fromWord b c w o n) = ofWord (nextsBy ungatedSteps (trackSaid b) (positionSaid b) c w) (nexts (trackSaid b) (positionSaid b) c w)
-given (allTheSame b n k) = ofRefused (refusal b) (keyFor (trackSaid b) (positionSaid b))
+given (onRefused b n k) = ofRefused (refusal b) (keyFor (trackSaid b) (positionSaid b))
 
 -- what the row says
 abbrev pub said : Row → Answer
@@ -42,7 +42,7 @@ said (onBoard b m n k c) = ofBoard k c
 said (onSheet b ws n) = ofSheet n
 said (atGate b ws o n) = ofGate o n
 said (fromWord b c w o n) = ofWord o n
-said (allTheSame b n k) = ofRefused n k
+said (onRefused b n k) = ofRefused n k
 
 abbrev pub Hold : List Row → Type 0
 Hold rows = map given rows ≡ map said rows

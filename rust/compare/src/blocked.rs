@@ -14,7 +14,7 @@ pub struct BlockedTally {
 }
 
 impl BlockedTally {
-    /// One accepted board more. Whether so many blocked carriers can be.
+    /// One accepted board more. Gives whether so many carriers can be blocked.
     pub fn add(&mut self, blocked: usize) -> bool {
         *self.accepted.entry(blocked).or_default() += 1;
         blocked != 1

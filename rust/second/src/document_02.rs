@@ -77,7 +77,7 @@ fn beyond(points: u8, zones: &[[u8; 4]]) -> Vec<u8> {
     laid_out(points, &[&[[0, 1, 0, 0]; 2], zones].concat())
 }
 
-/// Request g: accepted boards, none with exactly one blocked carrier.
+/// Request g: accepted boards on which carrier 5 heads for a point with another zone, free or held.
 pub fn two_zones() -> Vec<Row> {
     vec![
         (beyond(3, &[[1, 2, 5, 0], [1, 2, 0, 0]]), 0, &[5, 3, 4, 7, 1], &[]),
@@ -87,7 +87,7 @@ pub fn two_zones() -> Vec<Row> {
     ]
 }
 
-/// Request g: boards that are turned back, on which carrier 5 would be blocked alone.
+/// Request g: boards that are turned back; carrier 5 would be blocked alone.
 pub fn one_blocked() -> Vec<(Vec<u8>, u32)> {
     vec![(beyond(3, &[[1, 2, 5, 0]]), 8), (beyond(4, &[[2, 3, 5, 0], [2, 3, 0, 0]]), 9)]
 }

@@ -2,7 +2,7 @@
 
 use second::document_01::{k, refused, starred, SHEETS_FOR_K};
 use second::document_02::{at_gate, loops_refused, one_blocked, to_loop, turning_loops, two_zones, SHEETS_FOR_LOOP};
-use second::{collapse, key, key_by, mark, mark_by, read, Rule};
+use second::{collapse, key, key_by, mark, mark_by, named, read, Board, Rule, Zone};
 
 #[test]
 fn boards() {
@@ -33,5 +33,15 @@ fn refusals_and_marks() {
     }
     for (board, sheet, older, now) in at_gate() {
         assert_eq!((mark_by(Rule::Older, &board, sheet), mark(&board, sheet)), (older, now));
+    }
+}
+
+/// On a board that the two-zone rule or the next row refuses one carrier alone may be blocked.
+#[test]
+fn blocked_alone() {
+    for (bytes, _) in one_blocked() {
+        let zone = |z: &[u8]| Zone { a: z[0].into(), b: z[1].into(), carrier: z[2].into(), heading: z[3].into() };
+        let board = Board { points: bytes[3].into(), home: bytes[4].into(), zones: bytes[6..].chunks(4).map(zone).collect() };
+        assert_eq!(named(Rule::HomeGate, &board), [5]);
     }
 }

@@ -1,5 +1,5 @@
--- Members of a list by their places.
--- By induction over the list.
+-- Members of a list by their places, and how many of them pass a test.
+-- By induction over the list, or place by place.
 use Prim.Native.Nat.{ℕ, zero, suc, _+_, _<_}
 use mathlib.Core.Path.{_≡_, refl, sym, _∙_, ap, ap₂, subst}
 use mathlib.Core.Logic.{_⊎_, inl, inr}

@@ -46,6 +46,6 @@ pub two-zone-rows : length twoZoneRule ≡ 7
 unfolding twoZoneRule
 two-zone-rows = refl
 
-pub two-zone-hold : Hold twoZoneRule
+pub two-zone-holds : Hold twoZoneRule
 unfolding twoZoneRule flatten given
-two-zone-hold = refl
+two-zone-holds = refl

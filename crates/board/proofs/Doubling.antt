@@ -17,7 +17,8 @@ use Rattle.model.proofs.ListLaws.{how-many-append, below-any, below-any-false}
 use Rattle.bits.specs.Sets.{hasBit, setMinus, Lowest}
 use Rattle.bits.proofs.BitLaws.{bit-none, bit-all, bit-or, bit-and, bit-alone, bit-with, bit-minus, alone-word, minus-word, minus-in, bit-below}
 use Rattle.bits.proofs.LowestLaws.{trailing-lowest}
-use Rattle.board.specs.Inner.{ByteAt, startsAt, Inside, Doubled}
+use Rattle.board.specs.declared.input.Zone.{Zone}
+use Rattle.board.specs.Inner.{ByteAt, ZoneAt, startsAt, Inside, Doubled}
 use Rattle.board.proofs.Filling.{map-next, first-end, second-end}
 use Rattle.board.proofs.Rows.{ltb-is}
 
@@ -75,12 +76,12 @@ starts-next {b} {once} {twice} {w} {p} S e = record { one = λ q l. first q l (e
     second q l false h = both q l false h ∙ or-none (leb 2 (startsAt b w q)) (leb 1 (startsAt b w q)) ∙ ap (leb 2) (sym (counted q false h ∙ add-zero (startsAt b w q)))
 
 -- a turn of the loop: both words of a zone; and its end
-pub starts-zone : {b : List ℕ} {once twice once₁ twice₁ once₂ twice₂ p q : ℕ} (z : ℕ) → StartsTwice b once twice (2 * z) → ByteAt b (4 * z + 6) p → ByteAt b (4 * z + 7) q
-    → once₁ ≡ bitOr once (2 ^ p) → twice₁ ≡ bitOr twice (bitAnd once (2 ^ p)) → once₂ ≡ bitOr once₁ (2 ^ q) → twice₂ ≡ bitOr twice₁ (bitAnd once₁ (2 ^ q)) → StartsTwice b once₂ twice₂ (2 * (z + 1))
-starts-zone {b} {once₂ = once₂} {twice₂ = twice₂} z S P Q e f g h =
+pub starts-zone : {b : List ℕ} {once twice once₁ twice₁ once₂ twice₂ z : ℕ} {r : Zone} → StartsTwice b once twice (2 * z) → ZoneAt b z r
+    → once₁ ≡ bitOr once (2 ^ r .a) → twice₁ ≡ bitOr twice (bitAnd once (2 ^ r .a)) → once₂ ≡ bitOr once₁ (2 ^ r .b) → twice₂ ≡ bitOr twice₁ (bitAnd once₁ (2 ^ r .b)) → StartsTwice b once₂ twice₂ (2 * (z + 1))
+starts-zone {b} {once₂ = once₂} {twice₂ = twice₂} {z} S Z e f g h =
     subst (StartsTwice b once₂ twice₂) (let n : 2 * z + 1 + 1 ≡ 2 * (z + 1) = omega arith in n)
     (subst₂ (λ (x y : ℕ). StartsTwice b x y (2 * z + 1 + 1)) (sym g) (sym h)
-    (starts-next (subst₂ (λ (x y : ℕ). StartsTwice b x y (2 * z + 1)) (sym e) (sym f) (starts-next S (first-end z P))) (second-end z Q)))
+    (starts-next (subst₂ (λ (x y : ℕ). StartsTwice b x y (2 * z + 1)) (sym e) (sym f) (starts-next S (first-end Z))) (second-end Z)))
 
 pub starts-last : {b : List ℕ} {once twice n z : ℕ} → ByteAt b 5 n → z ≤ n → n ≤ z → StartsTwice b once twice (2 * z) → Doubled b twice
 starts-last {b} {once} {twice} {n} {z} N i j S = record { holds = subst (λ (x : ℕ). StartsTwice b once twice (2 * x)) (let s : n ≡ zonesSaid b = N .is in let q : z ≡ zonesSaid b = omega arith in q) S .two }

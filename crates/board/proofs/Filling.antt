@@ -2,16 +2,18 @@
 -- The list is split at the place that is stored to.
 use Prim.Native.Nat.{ℕ, suc, _+_, _-_, _*_, _/_, _%_, _≤_, _<_}
 use native.Mathlib.Omega.{arith}
+use native.Mathlib.Nat.{add-zero}
 use native.Mathlib.Numerals.{add-one}
 use mathlib.Core.List.{List, [], _∷_, _++_, map, map-append, append-assoc}
 use mathlib.Core.Path.{_≡_, sym, _∙_, ap, ap₂}
 use lib.ListN.{length, set, replicate, length-map, length-append, length-replicate}
 use lib.Seq.{set-at}
 use Rattle.model.specs.Lists.{numbersBelow}
-use Rattle.model.specs.Reading.{byte, trackSaid, positionSaid, zonesSaid, carrierIn, headingIn, endSaid}
+use Rattle.model.specs.Reading.{byte, zoneFrom, trackSaid, positionSaid, zonesSaid, carrierIn, headingIn, endSaid}
 use Rattle.model.proofs.ListLaws.{length-below, below-suc}
 use Rattle.board.specs.Given.{padded}
-use Rattle.board.specs.Inner.{ByteAt}
+use Rattle.board.specs.declared.input.Zone.{Zone}
+use Rattle.board.specs.Inner.{ByteAt, ZoneAt}
 
 -- n places: f of each of the first w, then zeros
 abbrev pub filled : ℕ → (ℕ → ℕ) → ℕ → List ℕ
@@ -69,25 +71,27 @@ module _ {b : List ℕ} {n z : ℕ} (few : zonesSaid b ≤ 96) (N : ByteAt b 5 n
   position-size h = filled-size 96 (heldSaid b) z h within
 
 -- the ends of a zone are where its two words start
-module _ {b : List ℕ} {p : ℕ} (z : ℕ) where
-  pub first-end : ByteAt b (4 * z + 6) p → p ≡ endSaid b (2 * z)
-  first-end P = P .is ∙ ap (byte b) (let i : 4 * z + 6 ≡ 4 * (2 * z / 2) + 2 * z % 2 + 6 = omega arith in i)
+module _ {b : List ℕ} {z : ℕ} {r : Zone} (Z : ZoneAt b z r) where
+  pub first-end : r .a ≡ endSaid b (2 * z)
+  first-end =
+      Z .a-is ∙ ap (byte b) (sym (add-zero (zoneFrom b z))) ∙
+      ap₂ (λ (y k : ℕ). byte b (zoneFrom b y + k)) (let e : z ≡ 2 * z / 2 = omega arith in e) (let e : 0 ≡ 2 * z % 2 = omega arith in e)
 
-  pub second-end : ByteAt b (4 * z + 7) p → p ≡ endSaid b (2 * z + 1)
-  second-end P = P .is ∙ ap (byte b) (let i : 4 * z + 7 ≡ 4 * ((2 * z + 1) / 2) + (2 * z + 1) % 2 + 6 = omega arith in i)
+  pub second-end : r .b ≡ endSaid b (2 * z + 1)
+  second-end = Z .b-is ∙ ap₂ (λ (y k : ℕ). byte b (zoneFrom b y + k)) (let e : z ≡ (2 * z + 1) / 2 = omega arith in e) (let e : 1 ≡ (2 * z + 1) % 2 = omega arith in e)
 
-pub ends-next : {b e : List ℕ} {z p q : ℕ} → e ≡ filled 192 (endSaid b) (2 * z) → ByteAt b (4 * z + 6) p → ByteAt b (4 * z + 7) q → z < 96 → set (set e (2 * z) p) (2 * z + 1) q ≡ filled 192 (endSaid b) (2 * (z + 1))
-ends-next {b} {e} {z} {p} {q} h P Q l =
-    ap (λ (r : List ℕ). set r (2 * z + 1) q) (ap₂ (λ (r : List ℕ) (v : ℕ). set r (2 * z) v) h (first-end z P) ∙ filled-next 192 (endSaid b) (2 * z) (omega arith)) ∙
-    ap (set (filled 192 (endSaid b) (2 * z + 1)) (2 * z + 1)) (second-end z Q) ∙
+pub ends-next : {b e : List ℕ} {z : ℕ} {said : Zone} → e ≡ filled 192 (endSaid b) (2 * z) → ZoneAt b z said → z < 96 → set (set e (2 * z) (said .a)) (2 * z + 1) (said .b) ≡ filled 192 (endSaid b) (2 * (z + 1))
+ends-next {b} {e} {z} {said} h Z l =
+    ap (λ (r : List ℕ). set r (2 * z + 1) (said .b)) (ap₂ (λ (r : List ℕ) (v : ℕ). set r (2 * z) v) h (first-end Z) ∙ filled-next 192 (endSaid b) (2 * z) (omega arith)) ∙
+    ap (set (filled 192 (endSaid b) (2 * z + 1)) (2 * z + 1)) (second-end Z) ∙
     filled-next 192 (endSaid b) (2 * z + 1) (omega arith) ∙
     ap (filled 192 (endSaid b)) (let n : 2 * z + 1 + 1 ≡ 2 * (z + 1) = omega arith in n)
 
 pub ends-last : {b e : List ℕ} {z n : ℕ} → e ≡ filled 192 (endSaid b) (2 * z) → ByteAt b 5 n → z ≤ n → n ≤ z → e ≡ padded 192 (trackSaid b .ends)
 ends-last {b} {e} {z} {n} h N i j = h ∙ ap (filled 192 (endSaid b)) (let s : n ≡ zonesSaid b = N .is in let q : 2 * z ≡ 2 * zonesSaid b = omega arith in q) ∙ sym (ends-filled b)
 
-pub position-next : {b e : List ℕ} {z c h : ℕ} → e ≡ filled 96 (heldSaid b) z → ByteAt b (4 * z + 8) c → ByteAt b (4 * z + 9) h → z < 96 → set e z (2 * c + h) ≡ filled 96 (heldSaid b) (z + 1)
-position-next {b} {e} {z} {c} {h} f C H l = rw (f, C .is, H .is) (filled-next 96 (heldSaid b) z l)
+pub position-next : {b e : List ℕ} {z : ℕ} {said : Zone} → e ≡ filled 96 (heldSaid b) z → ZoneAt b z said → z < 96 → set e z (2 * said .carrier + said .heading) ≡ filled 96 (heldSaid b) (z + 1)
+position-next {b} {e} {z} f Z l = rw (f, Z .carrier-is, Z .heading-is) (filled-next 96 (heldSaid b) z l)
 
 pub position-last : {b e : List ℕ} {z n : ℕ} → e ≡ filled 96 (heldSaid b) z → ByteAt b 5 n → z ≤ n → n ≤ z → e ≡ padded 96 (positionSaid b)
 position-last {b} {e} {z} {n} h N i j = h ∙ ap (filled 96 (heldSaid b)) (let s : n ≡ zonesSaid b = N .is in let q : z ≡ zonesSaid b = omega arith in q) ∙ sym (position-filled b)

@@ -1,6 +1,7 @@
 pub mod Rows
 pub mod Turns
 pub mod Filling
+pub mod ZoneBytes
 pub mod Repeats
 pub mod Doubling
 pub mod Together

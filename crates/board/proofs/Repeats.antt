@@ -1,74 +1,98 @@
--- Row 7: the table of the carriers met, zone by zone, and what it says of a zone's test.
--- A zone's carrier is marked after its test, so the table is about the zones before it.
-use Prim.Native.Nat.{ℕ, suc, _+_, _*_, _<_}
+-- Row 7: the table of the low bytes met, zone by zone, and what it says of a zone's test. A carrier whose low byte isn't in the table stands in
+-- no earlier zone. A zone's low byte is marked after its test, so the table is about the zones before it.
+use Prim.Native.Nat.{ℕ, suc, _+_, _%_, _≤_, _<_}
 use native.Mathlib.Omega.{arith}
 use native.Mathlib.Numerals.{add-one}
 use mathlib.Core.List.{List, [], _∷_}
 use mathlib.Core.Path.{_≡_, refl, sym, _∙_, ap, subst}
-use mathlib.Core.Bool.{Bool, true, false, not, _&&_, _||_, or-false}
-use lib.ListN.{length, getD, set, replicate, length-set, getD-replicate}
+use mathlib.Core.Bool.{Bool, true, false, not, _&&_, _||_, or-false, true≢false}
+use lib.ListN.{length, getD, set, replicate, length-set}
 use lib.Seq.{getD-set-same, getD-set-other}
 use lib.Dec.{eqb}
-use borrow.Author.Tests.{ne-eqb, eqb-true, eqb-false}
+use borrow.Author.Count.{below-more}
+use borrow.Author.Tests.{eq-eqb, ne-eqb, eqb-true, eqb-false}
 use Rattle.model.specs.Lists.{numbersBelow, anyOf}
 use Rattle.model.specs.Reading.{repeated, carrierIn}
-use Rattle.model.proofs.ListLaws.{any-append, below-any, below-suc}
-use Rattle.board.specs.Inner.{ByteAt}
+use Rattle.model.proofs.ListLaws.{any-append, below-any, below-any-false, below-suc}
+use Rattle.board.specs.declared.input.Zone.{Zone}
+use Rattle.board.specs.Inner.{ZoneAt, stoodBefore}
+use Rattle.board.proofs.Turns.{NoneYet}
 
--- carrier c stands in a zone before z
-abbrev pub stoodBefore : List ℕ → ℕ → ℕ → Bool
-stoodBefore b c z = anyOf (λ y. eqb (carrierIn b y) c) (numbersBelow z)
+-- the low byte of zone y's carrier is in the table, if there is a carrier
+abbrev Marked : List ℕ → List Bool → ℕ → Type 0
+Marked b seen y = (carrierIn b y ≡ 0 → ⊥) → getD seen (carrierIn b y % 256) false ≡ true
 
--- the carriers of the zones before z
+-- so for the zones before z
 pub record Seen (b : List ℕ) (seen : List Bool) (z : ℕ) : Type 0 where
   pub size : length seen ≡ 256
-  pub holds : (c : ℕ) → c < 256 → (c ≡ 0 → ⊥) → getD seen c false ≡ stoodBefore b c z
+  pub marked : (y : ℕ) → y < z → Marked b seen y
+
+pub seen-first : (b : List ℕ) → Seen b (replicate 256 false) 0
+seen-first b = record { size = refl; marked = λ y l. absurd (omega arith) }
 
 -- one that doesn't pass adds nothing
 any-next : (f : ℕ → Bool) (n : ℕ) → f n ≡ false → anyOf f (numbersBelow (suc n)) ≡ anyOf f (numbersBelow n)
 any-next f n e = ap (anyOf f) (below-suc n) ∙ any-append f (numbersBelow n) (n ∷ []) ∙ ap (λ (t : Bool). anyOf f (numbersBelow n) || (t || false)) e ∙ or-false (anyOf f (numbersBelow n))
 
-pub seen-first : (b : List ℕ) → Seen b (replicate 256 false) 0
-seen-first b = record { size = refl; holds = λ c l n. getD-replicate 256 c false false l }
+module _ {b : List ℕ} {seen : List Bool} {z : ℕ} {r : Zone} (S : Seen b seen z) (Z : ZoneAt b z r) where
+  pub seen-free : r .carrier ≡ 0 → Seen b seen (z + 1)
+  seen-free e = record { size = S .size; marked = below-more (Marked b seen) z (S .marked) (λ n. absurd (n (sym (Z .carrier-is) ∙ e))) }
 
-module _ {b : List ℕ} {seen : List Bool} {z c : ℕ} (S : Seen b seen z) (C : ByteAt b (4 * z + 8) c) where
-  pub seen-free : c ≡ 0 → Seen b seen (z + 1)
-  seen-free e = record {
-    size = S .size;
-    holds = λ k l n. S .holds k l n ∙ sym (ap (stoodBefore b k) (add-one z) ∙ any-next (λ y. eqb (carrierIn b y) k) z (ne-eqb (carrierIn b z) k (λ q. n (sym q ∙ sym (C .is) ∙ e))));
-  }
-
-  pub seen-held : Seen b (set seen c true) (z + 1)
-  seen-held = record { size = length-set seen c true ∙ S .size; holds = λ k l n. go k l n (eqb (carrierIn b z) k) refl }
+  pub seen-held : Seen b (set seen (r .carrier % 256) true) (z + 1)
+  seen-held = record { size = length-set seen (r .carrier % 256) true ∙ S .size; marked = below-more (Marked b (set seen (r .carrier % 256) true)) z (λ y l n. kept y (S .marked y l n)) (λ n. at (carrierIn b z % 256) (sym low)) }
     where
-      go : (k : ℕ) → k < 256 → (k ≡ 0 → ⊥) → (t : Bool) → eqb (carrierIn b z) k ≡ t → getD (set seen c true) k false ≡ stoodBefore b k (z + 1)
-      go k l n true e =
-          ap (λ (x : ℕ). getD (set seen c true) x false) (sym (eqb-true (carrierIn b z) k e) ∙ sym (C .is)) ∙
-          getD-set-same seen c true false (subst (λ (x : ℕ). c < x) (sym (S .size)) (C .small)) ∙
-          sym (below-any (λ y. eqb (carrierIn b y) k) (z + 1) z (omega arith) e)
-      go k l n false e =
-          getD-set-other seen c k true false (λ q. eqb-false (carrierIn b z) k e (sym (C .is) ∙ sym q)) ∙
-          S .holds k l n ∙
-          sym (ap (stoodBefore b k) (add-one z) ∙ any-next (λ y. eqb (carrierIn b y) k) z e)
+      low : r .carrier % 256 ≡ carrierIn b z % 256
+      low = ap (λ (x : ℕ). x % 256) (Z .carrier-is)
 
-  repeated-is : (c ≡ 0 → ⊥) → repeated b z ≡ getD seen c false
-  unfolding repeated
-  repeated-is n = ap (λ (x : ℕ). not (eqb x 0) && stoodBefore b x z) (sym (C .is)) ∙ simp (ne-eqb c 0 n) (sym (S .holds c (C .small) n))
+      at : (k : ℕ) → k ≡ r .carrier % 256 → getD (set seen (r .carrier % 256) true) k false ≡ true
+      at k e = ap (λ (x : ℕ). getD (set seen (r .carrier % 256) true) x false) e ∙ getD-set-same seen (r .carrier % 256) true false (subst (λ (n : ℕ). r .carrier % 256 < n) (sym (S .size)) (omega arith))
 
-  repeated-free : c ≡ 0 → repeated b z ≡ false
+      kept : (y : ℕ) → getD seen (carrierIn b y % 256) false ≡ true → getD (set seen (r .carrier % 256) true) (carrierIn b y % 256) false ≡ true
+      kept y m = go (eqb (carrierIn b y % 256) (r .carrier % 256)) refl
+        where
+          go : (t : Bool) → eqb (carrierIn b y % 256) (r .carrier % 256) ≡ t → getD (set seen (r .carrier % 256) true) (carrierIn b y % 256) false ≡ true
+          go true e = at (carrierIn b y % 256) (eqb-true (carrierIn b y % 256) (r .carrier % 256) e)
+          go false e = getD-set-other seen (r .carrier % 256) (carrierIn b y % 256) true false (eqb-false (carrierIn b y % 256) (r .carrier % 256) e) ∙ m
+
+  -- none before has the low byte, so none has the carrier
+  pub new-carrier : (r .carrier ≡ 0 → ⊥) → getD seen (r .carrier % 256) false ≡ false → false ≡ stoodBefore b (r .carrier) z
+  unfolding stoodBefore
+  new-carrier n e = sym (below-any-false (λ y. eqb (carrierIn b y) (r .carrier)) z (λ y l. ne-eqb (carrierIn b y) (r .carrier) (other y l)))
+    where
+      other : (y : ℕ) → y < z → carrierIn b y ≡ r .carrier → ⊥
+      other y l q = true≢false (sym (S .marked y l (λ k. n (sym q ∙ k))) ∙ ap (λ (c : ℕ). getD seen (c % 256) false) q ∙ e)
+
+-- going through the zones before z: one that has the carrier is met, or the end
+pub stood-met : {b : List ℕ} {c y z : ℕ} {r : Zone} → ZoneAt b y r → y < z → r .carrier ≡ c → true ≡ stoodBefore b c z
+unfolding stoodBefore
+stood-met {b} {c} {y} {z} Y l e = sym (below-any (λ x. eqb (carrierIn b x) c) z y l (eq-eqb (carrierIn b y) c (sym (Y .carrier-is) ∙ e)))
+
+pub stood-none : (b : List ℕ) (c : ℕ) {y z : ℕ} → NoneYet (λ x. eqb (carrierIn b x) c) z y → z ≤ y → false ≡ stoodBefore b c z
+unfolding stoodBefore
+stood-none b c {y} {z} none l = sym (below-any-false (λ x. eqb (carrierIn b x) c) z (λ x k. none .none-yet x (omega arith)))
+
+module _ {b : List ℕ} {z : ℕ} {r : Zone} (Z : ZoneAt b z r) where
+  pub another : {c : ℕ} → (r .carrier ≡ c → ⊥) → eqb (carrierIn b z) c ≡ false
+  another {c} n = ne-eqb (carrierIn b z) c (λ e. n (Z .carrier-is ∙ e))
+
+  repeated-is : (r .carrier ≡ 0 → ⊥) → repeated b z ≡ stoodBefore b (r .carrier) z
+  unfolding repeated stoodBefore
+  repeated-is n = ap (λ (x : ℕ). not (eqb x 0) && anyOf (λ y. eqb (carrierIn b y) x) (numbersBelow z)) (sym (Z .carrier-is)) ∙ simp (ne-eqb (r .carrier) 0 n)
+
+  repeated-free : r .carrier ≡ 0 → repeated b z ≡ false
   unfolding repeated
-  repeated-free e = ap (λ (x : ℕ). not (eqb x 0) && stoodBefore b x z) (sym (C .is) ∙ e)
+  repeated-free e = ap (λ (x : ℕ). not (eqb x 0) && anyOf (λ y. eqb (carrierIn b y) x) (numbersBelow z)) (sym (Z .carrier-is) ∙ e)
 
   -- whether a carrier stood before, of one zone more
   module _ {t : Bool} (T : t ≡ anyOf (repeated b) (numbersBelow z)) where
     same-next : repeated b z ≡ false → t ≡ anyOf (repeated b) (numbersBelow (z + 1))
     same-next e = T ∙ sym (ap (λ (x : ℕ). anyOf (repeated b) (numbersBelow x)) (add-one z) ∙ any-next (repeated b) z e)
 
-    pub again-free : c ≡ 0 → t ≡ anyOf (repeated b) (numbersBelow (z + 1))
+    pub again-free : r .carrier ≡ 0 → t ≡ anyOf (repeated b) (numbersBelow (z + 1))
     again-free e = same-next (repeated-free e)
 
-    pub again-new : (c ≡ 0 → ⊥) → getD seen c false ≡ false → t ≡ anyOf (repeated b) (numbersBelow (z + 1))
-    again-new n e = same-next (repeated-is n ∙ e)
+    pub again-new : (r .carrier ≡ 0 → ⊥) → false ≡ stoodBefore b (r .carrier) z → t ≡ anyOf (repeated b) (numbersBelow (z + 1))
+    again-new n e = same-next (repeated-is n ∙ sym e)
 
-  pub again-met : (c ≡ 0 → ⊥) → getD seen c false ≡ true → true ≡ anyOf (repeated b) (numbersBelow (z + 1))
-  again-met n e = sym (below-any (repeated b) (z + 1) z (omega arith) (repeated-is n ∙ e))
+  pub again-met : (r .carrier ≡ 0 → ⊥) → true ≡ stoodBefore b (r .carrier) z → true ≡ anyOf (repeated b) (numbersBelow (z + 1))
+  again-met n e = sym (below-any (repeated b) (z + 1) z (omega arith) (repeated-is n ∙ sym e))

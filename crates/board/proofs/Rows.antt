@@ -8,7 +8,8 @@ use lib.ListN.{length}
 use lib.Dec.{leb, ltb, eqb}
 use borrow.Author.Tests.{lt-ltb, le-ltb, le-leb, lt-leb, eq-eqb, ne-eqb, leb-true, leb-false}
 use Rattle.model.specs.Reading.{wrongLength, wrongVersion, outOfRange, wrongCount, badZone}
-use Rattle.board.specs.Inner.{ByteAt}
+use Rattle.board.specs.declared.input.Zone.{Zone}
+use Rattle.board.specs.Inner.{ByteAt, Stride, ZoneAt}
 
 pub ltb-is : (m n : ℕ) → ltb m n ≡ not (leb n m)
 ltb-is m n = go (leb n m) refl
@@ -21,13 +22,20 @@ pub length-row : {b : List ℕ} {l m : ℕ} → ByteAt b 0 l → ByteAt b 1 m �
 unfolding wrongLength
 length-row {b} l m = ap₂ (λ (x y : ℕ). not (eqb (256 * x + y + 2) (length b))) (l .is) (m .is)
 
-pub version-row : {b : List ℕ} {v : ℕ} → ByteAt b 2 v → not (eqb v 1) ≡ wrongVersion b
-unfolding wrongVersion
-version-row v = ap (λ (x : ℕ). not (eqb x 1)) (v .is)
+module _ {b : List ℕ} {v : ℕ} (F : ByteAt b 2 v) where
+  version-row : wrongVersion b ≡ not (eqb v 1 || eqb v 2)
+  unfolding wrongVersion
+  version-row = rw (F .is)
 
-pub count-row : {b : List ℕ} {l m z : ℕ} → ByteAt b 0 l → ByteAt b 1 m → ByteAt b 5 z → not (eqb (256 * l + m) (4 + 4 * z)) ≡ wrongCount b
+  pub version-one : v ≡ 1 → false ≡ wrongVersion b
+  version-one e = sym (version-row ∙ simp (eq-eqb v 1 e))
+
+  pub version-other : (v ≡ 1 → ⊥) → not (eqb v 2) ≡ wrongVersion b
+  version-other n = sym (version-row ∙ simp (ne-eqb v 1 n))
+
+pub count-row : {b : List ℕ} {l m s z : ℕ} → ByteAt b 0 l → ByteAt b 1 m → Stride b s → ByteAt b 5 z → not (eqb (256 * l + m) (4 + s * z)) ≡ wrongCount b
 unfolding wrongCount
-count-row l m z = rw (l .is, m .is, z .is)
+count-row l m s z = rw (l .is, m .is, s .is, z .is)
 
 module _ {b : List ℕ} {p h z : ℕ} (P : ByteAt b 3 p) (H : ByteAt b 4 h) (Z : ByteAt b 5 z) where
   range-row : outOfRange b ≡ not (leb 2 p && (leb p 64 && (ltb h p && (leb 2 z && leb z 96))))
@@ -49,22 +57,24 @@ module _ {b : List ℕ} {p h z : ℕ} (P : ByteAt b 3 p) (H : ByteAt b 4 h) (Z :
   pub many-zones : 2 ≤ p → p ≤ 64 → h < p → 2 ≤ z → ltb 96 z ≡ outOfRange b
   many-zones i j k l = ltb-is 96 z ∙ sym (range-row ∙ simp (le-leb 2 p i, le-leb p 64 j, lt-ltb h p k, le-leb 2 z l))
 
-module _ {b : List ℕ} (z : ℕ) {p a e c h : ℕ} (P : ByteAt b 3 p) (A : ByteAt b (4 * z + 6) a) (E : ByteAt b (4 * z + 7) e) (C : ByteAt b (4 * z + 8) c) (H : ByteAt b (4 * z + 9) h) where
-  zone-row : badZone b z ≡ (not (ltb a p) || (not (ltb e p) || (not (leb h 1) || (eqb c 0 && eqb h 1))))
+module _ {b : List ℕ} {z p : ℕ} {r : Zone} (P : ByteAt b 3 p) (Z : ZoneAt b z r) where
+  zone-row : badZone b z ≡ (not (ltb (r .a) p) || (not (ltb (r .b) p) || (not (leb (r .heading) 1) || (eqb (r .carrier) 0 && eqb (r .heading) 1))))
   unfolding badZone
-  zone-row = rw (P .is, A .is, E .is, C .is, H .is)
+  zone-row = rw (P .is, Z .a-is, Z .b-is, Z .carrier-is, Z .heading-is)
 
-  pub far-end-A : p ≤ a → true ≡ badZone b z
-  far-end-A l = sym (zone-row ∙ simp (le-ltb a p l))
+  pub far-end-A : p ≤ r .a → true ≡ badZone b z
+  far-end-A l = sym (zone-row ∙ simp (le-ltb (r .a) p l))
 
-  pub far-end-B : a < p → p ≤ e → true ≡ badZone b z
-  far-end-B i l = sym (zone-row ∙ simp (lt-ltb a p i, le-ltb e p l))
+  module _ (i : r .a < p) where
+    pub far-end-B : p ≤ r .b → true ≡ badZone b z
+    far-end-B l = sym (zone-row ∙ simp (lt-ltb (r .a) p i, le-ltb (r .b) p l))
 
-  pub wrong-heading : a < p → e < p → 1 < h → true ≡ badZone b z
-  wrong-heading i j l = sym (zone-row ∙ simp (lt-ltb a p i, lt-ltb e p j, lt-leb h 1 l))
+    module _ (j : r .b < p) where
+      pub wrong-heading : 1 < r .heading → true ≡ badZone b z
+      wrong-heading l = sym (zone-row ∙ simp (lt-ltb (r .a) p i, lt-ltb (r .b) p j, lt-leb (r .heading) 1 l))
 
-  pub held-zone : a < p → e < p → h ≤ 1 → (c ≡ 0 → ⊥) → false ≡ badZone b z
-  held-zone i j l m = sym (zone-row ∙ simp (lt-ltb a p i, lt-ltb e p j, le-leb h 1 l, ne-eqb c 0 m))
+      pub held-zone : r .heading ≤ 1 → (r .carrier ≡ 0 → ⊥) → false ≡ badZone b z
+      held-zone l m = sym (zone-row ∙ simp (lt-ltb (r .a) p i, lt-ltb (r .b) p j, le-leb (r .heading) 1 l, ne-eqb (r .carrier) 0 m))
 
-  pub free-zone : a < p → e < p → h ≤ 1 → c ≡ 0 → eqb h 1 ≡ badZone b z
-  free-zone i j l m = sym (zone-row ∙ simp (lt-ltb a p i, lt-ltb e p j, le-leb h 1 l, eq-eqb c 0 m))
+      pub free-zone : r .heading ≤ 1 → r .carrier ≡ 0 → eqb (r .heading) 1 ≡ badZone b z
+      free-zone l m = sym (zone-row ∙ simp (lt-ltb (r .a) p i, lt-ltb (r .b) p j, le-leb (r .heading) 1 l, eq-eqb (r .carrier) 0 m))

@@ -25,7 +25,8 @@ use Rattle.reach.proofs.OverLaws.{over-none, over-added, over-ways, over-same}
 use Rattle.reach.proofs.LinkedLaws.{reach-linked, linked-reach}
 use Rattle.reach.proofs.ReachedLaws.{size-reached, reached-size}
 use Rattle.board.proofs.Filling.{first-end, second-end}
-use Rattle.board.specs.Inner.{ByteAt, Inside, WaysOf}
+use Rattle.board.specs.declared.input.Zone.{Zone}
+use Rattle.board.specs.Inner.{ByteAt, ZoneAt, Inside, WaysOf}
 
 pub inside : (b : List ℕ) → outOfRange b ≡ false → anyOf (badZone b) (numbersBelow (zonesSaid b)) ≡ false → Inside b
 inside b range zones = record {
@@ -41,41 +42,35 @@ module _ (b : List ℕ) {ways next : List ℕ} {w p q : ℕ} (L : WaysOf b ways 
   ways-next : p ≡ endSaid b w → q ≡ endSaid b (rev w) → p < 64 → next ≡ added ways p q → WaysOf b next (w + 1)
   ways-next P Q small = over-added (endSaid b) (λ v. endSaid b (rev v)) (λ v. true) w ways L refl (subst (λ (n : ℕ). n < 64) P small) P Q
 
-pub added-size : {b ways next : List ℕ} {w i j p q : ℕ} → WaysOf b ways w → ByteAt b i p → ByteAt b j q → next ≡ added ways p q → length next ≡ 64
-added-size {b} {ways} {next} {p = p} {q = q} L P Q e = ap length e ∙ length-set ways p (bitOr (getD ways p 0) (2 ^ q)) ∙ L .long
+pub added-size : (ways : List ℕ) {next : List ℕ} (p q : ℕ) → length ways ≡ 64 → next ≡ added ways p q → length next ≡ 64
+added-size ways p q long e = ap length e ∙ length-set ways p (bitOr (getD ways p 0) (2 ^ q)) ∙ long
 
 -- the ends of a zone are points
-module _ {b : List ℕ} {n z p : ℕ} (I : Inside b) (N : ByteAt b 5 n) (l : z < n) where
-  word-small : (w : ℕ) → w < 2 * (z + 1) → p ≡ endSaid b w → p < 64
+module _ {b : List ℕ} {n z : ℕ} {r : Zone} (I : Inside b) (N : ByteAt b 5 n) (l : z < n) (Z : ZoneAt b z r) where
+  word-small : {p : ℕ} (w : ℕ) → w < 2 * (z + 1) → p ≡ endSaid b w → p < 64
   word-small w k e =
       let m : pointsSaid b ≤ 64 = I .points-most in
       let g : endSaid b w < pointsSaid b = I .word-in w (let s : n ≡ zonesSaid b = N .is in omega arith) in
       omega arith
 
-  pub first-in : ByteAt b (4 * z + 6) p → p < 64
-  first-in P = word-small (2 * z) (omega arith) (first-end z P)
+  pub first-in : r .a < 64
+  first-in = word-small (2 * z) (omega arith) (first-end Z)
 
-  pub second-in : ByteAt b (4 * z + 7) p → p < 64
-  second-in P = word-small (2 * z + 1) (omega arith) (second-end z P)
+  pub second-in : r .b < 64
+  second-in = word-small (2 * z + 1) (omega arith) (second-end Z)
 
 -- a turn of the loop, and its end
-pub ways-zone : {b ways next last : List ℕ} (z : ℕ) {p q : ℕ} → WaysOf b ways (2 * z) → ByteAt b (4 * z + 6) p → ByteAt b (4 * z + 7) q → p < 64 → q < 64 → next ≡ added ways p q → last ≡ added next q p → WaysOf b last (2 * (z + 1))
-ways-zone {b} {ways} {next} {last} z {p} {q} L P Q i j e f = subst (WaysOf b last) (let n : 2 * z + 1 + 1 ≡ 2 * (z + 1) = omega arith in n) (ways-next b there second first-back j f)
+pub ways-zone : {b ways next last : List ℕ} {z : ℕ} {r : Zone} → WaysOf b ways (2 * z) → ZoneAt b z r → r .a < 64 → r .b < 64 → next ≡ added ways (r .a) (r .b) → last ≡ added next (r .b) (r .a) → WaysOf b last (2 * (z + 1))
+ways-zone {b} {ways} {next} {last} {z} {r} L Z i j e f = subst (WaysOf b last) (let n : 2 * z + 1 + 1 ≡ 2 * (z + 1) = omega arith in n) (ways-next b there (second-end Z) first-back j f)
   where
-    first : p ≡ endSaid b (2 * z)
-    first = first-end z P
+    second-back : r .b ≡ endSaid b (rev (2 * z))
+    second-back = second-end Z ∙ ap (endSaid b) (let k : 2 * z + 1 ≡ rev (2 * z) = omega arith in k)
 
-    second : q ≡ endSaid b (2 * z + 1)
-    second = second-end z Q
-
-    second-back : q ≡ endSaid b (rev (2 * z))
-    second-back = second ∙ ap (endSaid b) (let k : 2 * z + 1 ≡ rev (2 * z) = omega arith in k)
-
-    first-back : p ≡ endSaid b (rev (2 * z + 1))
-    first-back = first ∙ ap (endSaid b) (let k : 2 * z ≡ rev (2 * z + 1) = omega arith in k)
+    first-back : r .a ≡ endSaid b (rev (2 * z + 1))
+    first-back = first-end Z ∙ ap (endSaid b) (let k : 2 * z ≡ rev (2 * z + 1) = omega arith in k)
 
     there : WaysOf b next (2 * z + 1)
-    there = ways-next b L first second-back i e
+    there = ways-next b L (first-end Z) second-back i e
 
 pub ways-last : {b ways : List ℕ} {n z : ℕ} → ByteAt b 5 n → z ≤ n → n ≤ z → WaysOf b ways (2 * z) → WaysOf b ways (2 * zonesSaid b)
 ways-last {b} {ways} {n} {z} N i j = subst (λ (x : ℕ). WaysOf b ways (2 * x)) (let s : n ≡ zonesSaid b = N .is in let q : z ≡ zonesSaid b = omega arith in q)

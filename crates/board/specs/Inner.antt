@@ -1,25 +1,55 @@
--- What the reader's inner functions say: of one byte, of two rows at a time, and of the ways and the points where two words start.
+-- What the reader's inner functions say: of one byte, of a zone's bytes in either version, of two rows at a time, and of the ways and the points
+-- where two words start.
 -- Nothing outside this crate speaks of these.
 use Prim.Native.Nat.{ℕ, _+_, _*_, _≤_, _<_}
 use mathlib.Core.List.{List, map}
 use mathlib.Core.Path.{_≡_}
 use lib.ListN.{length}
-use mathlib.Core.Bool.{true, cond}
+use mathlib.Core.Bool.{Bool, true, cond}
 use lib.Dec.{leb, eqb}
 use Rattle.model.specs.Lists.{numbersBelow, anyOf, howMany}
 use Rattle.model.specs.Track.{rev}
-use Rattle.model.specs.Reading.{byte, endSaid, pointsSaid, homeSaid, zonesSaid, badZone, repeated, underTwo, apart}
+use Rattle.model.specs.Reading.{byte, endA, endB, carrierIn, headingIn, stride, zoneFrom, endSaid, pointsSaid, homeSaid, zonesSaid, badZone, repeated, underTwo, apart}
 use Rattle.bits.specs.Sets.{hasBit}
 use Rattle.reach.specs.Ways.{WaysOver}
+use Rattle.board.specs.declared.input.Zone.{Zone}
 
 -- a byte that was read
 pub record ByteAt (b : List ℕ) (i r : ℕ) : Type 0 where
   pub is : r ≡ byte b i
   pub small : r < 256
 
--- what rows 2 and 5 leave: six bytes of the head, and four for each zone
+-- the bytes of a zone, counted
+pub record Stride (b : List ℕ) (r : ℕ) : Type 0 where
+  pub is : r ≡ stride b
+  pub least : 4 ≤ r
+  pub most : r ≤ 5
+
+-- what rows 2 and 5 leave: six bytes of the head, and those of each zone
 abbrev pub Whole : List ℕ → Type 0
-Whole b = length b ≡ 4 * zonesSaid b + 6
+Whole b = length b ≡ zoneFrom b (zonesSaid b)
+
+-- z is one of the zones of a whole board, each with so many bytes
+pub record ZoneIn (b : List ℕ) (s z : ℕ) : Type 0 where
+  pub whole : Whole b
+  pub counted : Stride b s
+  pub inside : z < zonesSaid b
+  pub few : z < 256
+
+-- a zone that was read
+pub record ZoneAt (b : List ℕ) (z : ℕ) (r : Zone) : Type 0 where
+  pub a-is : r .a ≡ endA b z
+  pub b-is : r .b ≡ endB b z
+  pub carrier-is : r .carrier ≡ carrierIn b z
+  pub heading-is : r .heading ≡ headingIn b z
+  pub a-small : r .a < 256
+  pub b-small : r .b < 256
+  pub carrier-small : r .carrier < 65536
+  pub heading-small : r .heading < 256
+
+-- carrier c stands in a zone before z
+unfoldable pub stoodBefore : List ℕ → ℕ → ℕ → Bool
+stoodBefore b c z = anyOf (λ y. eqb (carrierIn b y) c) (numbersBelow z)
 
 -- rows 6 and 7, where none before them holds
 unfoldable pub zoneRefusal : List ℕ → ℕ

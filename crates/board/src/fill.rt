@@ -1,5 +1,7 @@
 // The two arrays of a board that is read.
 use crate::input::byte;
+use crate::input::stride;
+use crate::input::zone_at;
 ghost use Prim.Native.Nat.{_≤_};
 ghost use mathlib.Core.Path.{_≡_};
 ghost use lib.ListN.{replicate};
@@ -14,15 +16,13 @@ pub fn arrays(bytes: &[u8], ends: &mut [usize], position: &mut [u32])
     ensures { λ r. ⌜ now (position .exit) ≡ padded 96 (positionSaid (now (bytes .entry))) ⌝ }
 {
     let zones = byte(bytes, 5);
+    let stride = stride(bytes);
     let mut z = 0;
     while z < zones {
-        let a = byte(bytes, 4 * z + 6);
-        let b = byte(bytes, 4 * z + 7);
-        let carrier = byte(bytes, 4 * z + 8);
-        let heading = byte(bytes, 4 * z + 9);
-        ends[2 * z] = a;
-        ends[2 * z + 1] = b;
-        position[z] = (2 * carrier + heading) as u32;
+        let said = zone_at(bytes, stride, z);
+        ends[2 * z] = said.a;
+        ends[2 * z + 1] = said.b;
+        position[z] = (2 * said.carrier + said.heading) as u32;
         z += 1;
     }
 }

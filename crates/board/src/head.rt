@@ -1,5 +1,6 @@
 // Rows 1 to 5: what the first six bytes and the number of bytes say.
 use crate::input::byte;
+use crate::input::stride;
 ghost use Prim.Native.Nat.{_≤_};
 ghost use mathlib.Core.Path.{_≡_};
 ghost use lib.ListN.{length};
@@ -20,12 +21,16 @@ pub fn wrong_length(bytes: &[u8]) -> bool
     256 * byte(bytes, 0) + byte(bytes, 1) + 2 != bytes.len()
 }
 
-// Row 3: the version isn't 1.
+// Row 3: the version is neither 1 nor 2.
 pub fn wrong_version(bytes: &[u8]) -> bool
     requires { ⌜ 6 ≤ length (now bytes) ⌝ }
     ensures { λ r. ⌜ r ≡ wrongVersion (now (bytes .entry)) ⌝ }
 {
-    byte(bytes, 2) != 1
+    let version = byte(bytes, 2);
+    if version == 1 {
+        return false;
+    }
+    version != 2
 }
 
 // Row 4: P, home or Z out of range.
@@ -51,10 +56,11 @@ pub fn out_of_range(bytes: &[u8]) -> bool
     96 < zones
 }
 
-// Row 5: L isn't 4 + 4 × Z.
+// Row 5: L isn't 4 + 4 × Z in version 1, 4 + 5 × Z in version 2.
 pub fn wrong_count(bytes: &[u8]) -> bool
     requires { ⌜ 6 ≤ length (now bytes) ⌝ }
     ensures { λ r. ⌜ r ≡ wrongCount (now (bytes .entry)) ⌝ }
 {
-    256 * byte(bytes, 0) + byte(bytes, 1) != 4 + 4 * byte(bytes, 5)
+    let said = 256 * byte(bytes, 0) + byte(bytes, 1);
+    said != 4 + stride(bytes) * byte(bytes, 5)
 }

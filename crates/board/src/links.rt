@@ -1,5 +1,7 @@
 // Rows 8 and 9: that each point but home has two zones, and that all points hang together.
 use crate::input::byte;
+use crate::input::stride;
+use crate::input::zone_at;
 ghost use Prim.Native.Nat.{_*_, _^_, _<_};
 ghost use mathlib.Core.Path.{_≡_};
 ghost use lib.ListN.{replicate};
@@ -21,12 +23,14 @@ fn add_ways(bytes: &[u8], ways: &mut [u64]) -> u64
     ensures { λ r. ⌜ WaysOf (now (bytes .entry)) (now (ways .exit)) (2 * zonesSaid (now (bytes .entry))) × Doubled (now (bytes .entry)) r ⌝ }
 {
     let zones = byte(bytes, 5);
+    let stride = stride(bytes);
     let mut once = 0;
     let mut twice = 0;
     let mut z = 0;
     while z < zones {
-        let a = byte(bytes, 4 * z + 6);
-        let b = byte(bytes, 4 * z + 7);
+        let said = zone_at(bytes, stride, z);
+        let a = said.a;
+        let b = said.b;
         twice = add_second(once, twice, a);
         once = bits::with(once, a);
         twice = add_second(once, twice, b);

@@ -1,58 +1,78 @@
 // Rows 6 and 7: what each zone says, and that no carrier stands in two zones.
 use crate::input::byte;
-ghost use Prim.Native.Nat.{_+_, _*_, _<_};
+use crate::input::stride;
+use crate::input::zone_at;
 ghost use mathlib.Core.Path.{_≡_};
-ghost use lib.ListN.{length};
 ghost use Rattle.model.specs.Reading.{badZone};
-ghost use Rattle.board.specs.Inner.{Whole, zoneRefusal};
+ghost use Rattle.board.specs.Inner.{Whole, ZoneIn, stoodBefore, zoneRefusal};
 
 // Row 6, of one zone: an end not below P, heading over 1, or free with heading 1.
-fn bad(bytes: &[u8], z: usize) -> bool
-    requires { ⌜ (z < 256) × (4 * z + 9 < length (now bytes)) ⌝ }
+fn bad(bytes: &[u8], stride: usize, z: usize) -> bool
+    requires { ⌜ ZoneIn (now bytes) stride z ⌝ }
     ensures { λ r. ⌜ r ≡ badZone (now (bytes .entry)) z ⌝ }
 {
     let points = byte(bytes, 3);
-    let a = byte(bytes, 4 * z + 6);
-    let b = byte(bytes, 4 * z + 7);
-    let carrier = byte(bytes, 4 * z + 8);
-    let heading = byte(bytes, 4 * z + 9);
-    if points <= a {
+    let said = zone_at(bytes, stride, z);
+    if points <= said.a {
         return true;
     }
-    if points <= b {
+    if points <= said.b {
         return true;
     }
-    if 1 < heading {
+    if 1 < said.heading {
         return true;
     }
-    if carrier != 0 {
+    if said.carrier != 0 {
         return false;
     }
-    heading == 1
+    said.heading == 1
 }
 
-// The number of the first of the two rows that holds, else 0. The table says of each carrier whether it stands in a zone before z.
+// Whether a carrier stands in a zone before z.
+fn stood_before(bytes: &[u8], stride: usize, z: usize, carrier: usize) -> bool
+    requires { ⌜ ZoneIn (now bytes) stride z ⌝ }
+    ensures { λ r. ⌜ r ≡ stoodBefore (now (bytes .entry)) carrier z ⌝ }
+{
+    let mut y = 0;
+    while y < z {
+        let said = zone_at(bytes, stride, y);
+        if said.carrier == carrier {
+            return true;
+        }
+        y += 1;
+    }
+    false
+}
+
+// The number of the first of the two rows that holds, else 0. The table says of each low byte whether a carrier with it stands in a zone
+// before z; only where one does are those zones gone through.
 pub fn refusal(bytes: &[u8]) -> u32
     requires { ⌜ Whole (now bytes) ⌝ }
     ensures { λ r. ⌜ r ≡ zoneRefusal (now (bytes .entry)) ⌝ }
 {
     let zones = byte(bytes, 5);
+    let stride = stride(bytes);
     let mut seen = [false; 256];
     let mut repeated = false;
     let mut z = 0;
     while z < zones {
-        if bad(bytes, z) {
+        if bad(bytes, stride, z) {
             return 6;
         }
-        let carrier = byte(bytes, 4 * z + 8);
-        z += 1;
+        let said = zone_at(bytes, stride, z);
+        let carrier = said.carrier;
+        let low = carrier % 256;
         if carrier == 0 {
+            z += 1;
             continue;
         }
-        if seen[carrier] {
-            repeated = true;
+        if seen[low] {
+            if stood_before(bytes, stride, z, carrier) {
+                repeated = true;
+            }
         }
-        seen[carrier] = true;
+        seen[low] = true;
+        z += 1;
     }
     if repeated {
         return 7;

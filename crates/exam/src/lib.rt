@@ -13,7 +13,7 @@ ghost use Rattle.exam.specs.Operations.{KeyPromise, CollapsePromise, Mar
 
 // The key of the board: its verdict, the plan of those that can go home, and the list of those blocked, ascending. Beside it, points, zones
 // and carriers out, all 0 on 1 to 11.
-pub fn key(bytes: &[u8], plan: &mut [u16], list: &mut [u8]) -> KeyResult
+pub fn key(bytes: &[u8], plan: &mut [u16], list: &mut [u16]) -> KeyResult
     ensures { λ r. ⌜ KeyPromise (now (bytes .entry)) (now (plan .entry)) (now (list .entry)) (r .verdict) (r .planned) (r .listed) (now (plan .exit)) (now (list .exit)) ⌝ }
     ensures { λ r. ⌜ r .summary ≡ summaryOf (trackSaid (now (bytes .entry))) (positionSaid (now (bytes .entry))) (r .verdict) ⌝ }
 {
@@ -47,7 +47,7 @@ pub fn key(bytes: &[u8], plan: &mut [u16], list: &mut [u8]) -> KeyResult
 }
 
 // Collapses the board: the carriers that it leaves are written to the list, ascending.
-pub fn collapse(bytes: &[u8], list: &mut [u8]) -> CollapseResult
+pub fn collapse(bytes: &[u8], list: &mut [u16]) -> CollapseResult
     ensures { λ r. ⌜ CollapsePromise (now (bytes .entry)) (now (list .entry)) (r .number) (r .listed) (now (list .exit)) ⌝ }
 {
     let mut ends = [0usize; 192];

@@ -35,7 +35,7 @@ pub fn key(
     ends: &[usize],
     position: &mut [u32],
     plan: &mut [u16],
-    list: &mut [u8],
+    list: &mut [u16],
 ) -> KeyResult
     requires { ⌜ Ready (trackOf head (now ends)) (now position) ⌝ }
     ensures { λ r. ⌜ KeyGiven (keyIn (trackOf head (now (ends .entry))) (now (position .entry)) (length (now (plan .entry))) (length (now (list .entry)))) (now (plan .entry)) (now (list .entry)) (r .verdict) (r .planned) (r .listed) (now (plan .exit)) (now (list .exit)) ⌝ }
@@ -86,7 +86,12 @@ pub struct CollapseResult {
 }
 
 // The carriers that the collapse leaves.
-pub fn collapse(head: Head, ends: &[usize], position: &mut [u32], list: &mut [u8]) -> CollapseResult
+pub fn collapse(
+    head: Head,
+    ends: &[usize],
+    position: &mut [u32],
+    list: &mut [u16],
+) -> CollapseResult
     requires { ⌜ Ready (trackOf head (now ends)) (now position) ⌝ }
     ensures { λ r. ⌜ CollapseGiven (collapseIn (trackOf head (now (ends .entry))) (now (position .entry)) (length (now (list .entry)))) (now (list .entry)) (r .number) (r .listed) (now (list .exit)) ⌝ }
     ensures { λ r. ⌜ now (position .exit) ≡ positionLeft (r .number) (collapseIn (trackOf head (now (ends .entry))) (now (position .entry)) (length (now (list .entry))) .list) (now (position .entry)) ⌝ }

@@ -13,7 +13,7 @@ fn mark_claim(head: Head, ends: &[usize], position: &mut [u32], sheet: &[u16]) -
     requires { ⌜ Ready (trackOf head (now ends)) (now position) × (0 < length (now sheet)) ⌝ }
     ensures { λ r. ⌜ r ≡ markClaim (trackOf head (now (ends .entry))) (now (position .entry)) (drop 1 (now (sheet .entry))) ⌝ }
 {
-    let mut list = [0u8; 96];
+    let mut list = [0u16; 96];
     let left = collapse(head, ends, position, &mut list);
     let listed = left.listed;
     if listed == 0 {

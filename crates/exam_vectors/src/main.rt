@@ -1,8 +1,7 @@
 // Runs the key, the collapse and the marker on the vectors of standard input. A line is a name, an operation, numbers in decimal, a colon
-// and the board's bytes in hexadecimal. The numbers are: for `key` the words lent for the plan and the bytes lent for the list, for
-// `collapse` the bytes lent, for `mark` the sheet. Each line is answered by the name, the operation and the number that it gives, and for
-// `key` and `collapse` by the lengths in the result and all of what was lent: what is not written still holds 60000 in the plan and 250
-// in the list.
+// and the board's bytes in hexadecimal. The numbers are: for `key` the words lent for the plan and for the list, for
+// `collapse` those for the list, for `mark` the sheet. Each line is answered by the name, the operation and the number that it gives, and for
+// `key` and `collapse` by the lengths in the result and all of what was lent: what is not written still holds 60000.
 mod line;
 mod say;
 

@@ -6,25 +6,25 @@ fn item(n: u64) {
     io::print_decimal(1, n);
 }
 
+fn say_words(words: &[u16]) {
+    let mut i = 0;
+    while i < words.len() {
+        item(words[i] as u64);
+        i += 1;
+    }
+}
+
 fn say_plan(plan: &[u16]) {
     io::write_all(1, b" plan");
-    let mut i = 0;
-    while i < plan.len() {
-        item(plan[i] as u64);
-        i += 1;
-    }
+    say_words(plan);
 }
 
-fn say_list(list: &[u8]) {
+fn say_list(list: &[u16]) {
     io::write_all(1, b" list");
-    let mut i = 0;
-    while i < list.len() {
-        item(list[i] as u64);
-        i += 1;
-    }
+    say_words(list);
 }
 
-fn say_key(bytes: &[u8], plan: &mut [u16], list: &mut [u8]) {
+fn say_key(bytes: &[u8], plan: &mut [u16], list: &mut [u16]) {
     let key = exam::key(bytes, plan, list);
     item(key.verdict as u64);
     io::write_all(1, b" planned");
@@ -35,7 +35,7 @@ fn say_key(bytes: &[u8], plan: &mut [u16], list: &mut [u8]) {
     say_list(list);
 }
 
-fn say_collapse(bytes: &[u8], list: &mut [u8]) {
+fn say_collapse(bytes: &[u8], list: &mut [u16]) {
     let left = exam::collapse(bytes, list);
     item(left.number as u64);
     io::write_all(1, b" listed");
@@ -71,15 +71,15 @@ fn nth(numbers: &[u16], i: usize) -> usize {
 
 fn run_key(bytes: &[u8], numbers: &[u16]) {
     let mut plan = [60000u16; 24];
-    let mut list = [250u8; 4];
+    let mut list = [60000u16; 4];
     let plan_room = numbers_in(nth(numbers, 0), &plan);
-    let list_room = bytes_in(nth(numbers, 1), &list);
+    let list_room = numbers_in(nth(numbers, 1), &list);
     say_key(bytes, &mut plan[..plan_room], &mut list[..list_room]);
 }
 
 fn run_collapse(bytes: &[u8], numbers: &[u16]) {
-    let mut list = [250u8; 4];
-    let list_room = bytes_in(nth(numbers, 0), &list);
+    let mut list = [60000u16; 4];
+    let list_room = numbers_in(nth(numbers, 0), &list);
     say_collapse(bytes, &mut list[..list_room]);
 }
 

@@ -68,7 +68,7 @@ pub fn mark_entries(
 }
 
 // Whether the sheet's words from `from` on are the list's first `count` carriers.
-pub fn same_claim(list: &[u8], count: usize, sheet: &[u16], from: usize) -> bool
+pub fn same_claim(list: &[u16], count: usize, sheet: &[u16], from: usize) -> bool
     requires { ⌜ (count ≤ length (now list)) × (from ≤ length (now sheet)) ⌝ }
     ensures { λ r. ⌜ r ≡ sameList (drop from (now (sheet .entry))) (take count (now (list .entry))) ⌝ }
 {
@@ -78,7 +78,7 @@ pub fn same_claim(list: &[u8], count: usize, sheet: &[u16], from: usize) -> bool
     let mut i = 0;
     while i < count {
         let word = sheet[from + i];
-        let carrier = list[i] as u16;
+        let carrier = list[i];
         if word != carrier {
             return false;
         }

@@ -140,6 +140,10 @@ module _ {A : Type 0} where
   true-any f (List·Memᴰ·head {x = a} {xs = l} q) e = or-left (f a) (anyOf f l) (ap f (sym q) ∙ e)
   true-any f (List·Memᴰ·tail {x = a} {xs = l} m) e = or-right (f a) (anyOf f l) (true-any f m e)
 
+  pub any-ext : (f g : A → Bool) (l : List A) → ((x : A) → List·Memᴰ x l → f x ≡ g x) → anyOf f l ≡ anyOf g l
+  any-ext f g [] h = refl
+  any-ext f g (a ∷ l) h = ap₂ (λ (s t : Bool). s || t) (h a (List·Memᴰ·head refl)) (any-ext f g l (λ x m. h x (List·Memᴰ·tail m)))
+
   pub any-false : (f : A → Bool) {l : List A} → anyOf f l ≡ false → {x : A} → List·Memᴰ x l → f x ≡ false
   any-false f e {x} m = not-true-false (f x) (λ q. true≢false (sym (true-any f m q) ∙ e))
 

@@ -13,7 +13,7 @@ use Rattle.model.specs.Lists.{numbersBelow, anyOf, allOf, howMany}
 use Rattle.model.specs.Track.{zoneOf, headingOf, start}
 use Rattle.model.specs.Position.{at, Stands, Once}
 use Rattle.model.specs.Labels.{label, parts}
-use Rattle.model.specs.Reading.{byte, endSaid, pointsSaid, homeSaid, zonesSaid, endA, endB, carrierIn, headingIn, trackSaid, positionSaid, tooShort, wrongLength, wrongVersion, outOfRange, wrongCount, badZone, repeated, underTwo, apart, refusal}
+use Rattle.model.specs.Reading.{byte, twoBytes, wide, zoneFrom, endSaid, pointsSaid, homeSaid, zonesSaid, endA, endB, carrierIn, headingIn, trackSaid, positionSaid, tooShort, wrongLength, wrongVersion, outOfRange, wrongCount, badZone, repeated, underTwo, apart, refusal}
 use Rattle.model.specs.Accepted.{HangsTogether, AcceptedTrack, Laid, heldLimit, Limited, Ready}
 use Rattle.model.proofs.BoolLaws.{both-ways, decided, and-left, and-right, and-both, or-false-left, or-false-right}
 use Rattle.model.proofs.ListLaws.{length-below, any-below-false, below-any, all-below, all-below-false}
@@ -102,7 +102,7 @@ module _ (b : List ℕ) where
   pub no-row : refusal b ≡ 0 → NoRow b
   no-row e = past-eight 0 (λ r pos small q. omega arith) e .0
 
-  together : refusal b ≡ 0 → apart b ≡ false
+  pub together : refusal b ≡ 0 → apart b ≡ false
   unfolding row9
   together e = cond-past (apart b) 9 0 0 (λ q. omega arith) (past-eight 0 (λ r pos small q. omega arith) e .1) .0
 
@@ -231,13 +231,13 @@ module _ (b : List ℕ) where
   pub start-a : (w : ℕ) → w < 2 * zonesSaid b → headingOf w ≡ 0 → start (trackSaid b) w ≡ endA b (zoneOf w)
   start-a w h e = start-said w h ∙ ap (byte b) s
     where
-      s : 4 * (w / 2) + w % 2 + 6 ≡ 4 * zoneOf w + 6
+      s : zoneFrom b (w / 2) + w % 2 ≡ zoneFrom b (zoneOf w)
       s = omega arith
 
   pub start-b : (w : ℕ) → w < 2 * zonesSaid b → headingOf w ≡ 1 → start (trackSaid b) w ≡ endB b (zoneOf w)
   start-b w h e = start-said w h ∙ ap (byte b) s
     where
-      s : 4 * (w / 2) + w % 2 + 6 ≡ 4 * zoneOf w + 7
+      s : zoneFrom b (w / 2) + w % 2 ≡ zoneFrom b (zoneOf w) + 1
       s = omega arith
 
   heading-cases : (w : ℕ) → (headingOf w ≡ 0) ⊎ (headingOf w ≡ 1)
@@ -273,8 +273,17 @@ start-in b zones w h = go (heading-cases b w)
     go (inl e) = rw (start-a b w h e) (good .a-in)
     go (inr e) = rw (start-b b w h e) (good .b-in)
 
+-- a carrier has one byte or two
+pub carrier-small : (b : List ℕ) → ((i : ℕ) → getD b i 0 < 256) → (z : ℕ) → carrierIn b z < 65536
+unfolding carrierIn
+carrier-small b bytes z = go (wide b)
+  where
+    go : (t : Bool) → cond t (twoBytes b (zoneFrom b z + 2)) (byte b (zoneFrom b z + 2)) < 65536
+    go true = omega (arith, bytes (zoneFrom b z + 2), bytes (zoneFrom b z + 2 + 1))
+    go false = omega (arith, bytes (zoneFrom b z + 2))
+
 module _ (b : List ℕ) (n : NoRow b) where
-  -- the carrier of a standing is the byte of its zone
+  -- the carrier of a standing is that of its zone
   stands-said : (c w : ℕ) → Stands (positionSaid b) c w → (zoneOf w < zonesSaid b) × (carrierIn b (zoneOf w) ≡ c) × (headingIn b (zoneOf w) ≡ headingOf w)
   stands-said c w s =
       let h : zoneOf w < zonesSaid b = rw length-position at (s .inside) in
@@ -347,7 +356,7 @@ module _ (b : List ℕ) (n : NoRow b) where
       go : (z < zonesSaid b) ⊎ (zonesSaid b ≤ z) → at (positionSaid b) z < heldLimit
       go (inl h) =
           let q : at (positionSaid b) z ≡ 2 * carrierIn b z + headingIn b z = at-said b z h in
-          let k : carrierIn b z < 256 = bytes (4 * z + 8) in
+          let k : carrierIn b z < 65536 = carrier-small b bytes z in
           let g : headingIn b z ≤ 1 = good-zone b (n .zones) z h .heading in
           omega arith
       go (inr h) = let q : at (positionSaid b) z ≡ 0 = at-past b z h in omega arith

@@ -39,9 +39,9 @@ pub record Bounded (t : Track) (p : Position) : Type 0 where
   pub zones-most : t .zones ≤ 96
   pub ends-count : length (t .ends) ≡ 2 * t .zones
 
--- what a zone holds, its number in a position, is below this: carriers are 1 to 255
+-- what a zone holds, its number in a position, is below this: carriers are 1 to 65,535
 abbrev pub heldLimit : ℕ
-heldLimit = 512
+heldLimit = 131072
 
 abbrev pub Limited : Position → Type 0
 Limited p = (z : ℕ) → at p z < heldLimit

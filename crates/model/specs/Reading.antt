@@ -1,5 +1,6 @@
--- The board in bytes: the refusals 1 to 9 in rising order, or a track with a first position.
-use Prim.Native.Nat.{ℕ, _+_, _*_, _/_, _%_}
+-- The board in bytes, in version 1 or 2: the refusals 1 to 9 in rising order, or a track with a first position. Versions differ in where the
+-- bytes of a zone are and in how many a carrier has; what is read of them here is one form, and nothing else speaks of a version.
+use Prim.Native.Nat.{ℕ, _+_, _-_, _*_, _/_, _%_}
 use mathlib.Core.List.{List, map}
 use mathlib.Core.Bool.{Bool, true, cond, not, _&&_, _||_}
 use lib.ListN.{length, getD}
@@ -13,9 +14,16 @@ module _ (b : List ℕ) where
   abbrev pub byte : ℕ → ℕ
   byte i = getD b i 0
 
-  -- bytes 0 and 1, big-endian: L, the number of bytes after them
+  -- two bytes from a place on, big-endian
+  abbrev pub twoBytes : ℕ → ℕ
+  twoBytes i = 256 * byte i + byte (i + 1)
+
+  -- bytes 0 and 1: L, the number of bytes after them
   abbrev pub lengthSaid : ℕ
-  lengthSaid = 256 * byte 0 + byte 1
+  lengthSaid = twoBytes 0
+
+  abbrev pub versionSaid : ℕ
+  versionSaid = byte 2
 
   abbrev pub pointsSaid : ℕ
   pointsSaid = byte 3
@@ -26,22 +34,34 @@ module _ (b : List ℕ) where
   abbrev pub zonesSaid : ℕ
   zonesSaid = byte 5
 
-  -- four bytes a zone: end A, end B, carrier, heading
+  -- a carrier has two bytes in version 2, one in version 1
+  abbrev pub wide : Bool
+  wide = eqb versionSaid 2
+
+  -- how many bytes a zone has: end A, end B, the carrier, the heading
+  unfoldable pub stride : ℕ
+  stride = cond wide 5 4
+
+  -- where the bytes of a zone begin
+  abbrev pub zoneFrom : ℕ → ℕ
+  zoneFrom z = stride * z + 6
+
   abbrev pub endA : ℕ → ℕ
-  endA z = byte (4 * z + 6)
+  endA z = byte (zoneFrom z)
 
   abbrev pub endB : ℕ → ℕ
-  endB z = byte (4 * z + 7)
+  endB z = byte (zoneFrom z + 1)
 
-  abbrev pub carrierIn : ℕ → ℕ
-  carrierIn z = byte (4 * z + 8)
+  unfoldable pub carrierIn : ℕ → ℕ
+  carrierIn z = cond wide (twoBytes (zoneFrom z + 2)) (byte (zoneFrom z + 2))
 
+  -- the last byte of the zone
   abbrev pub headingIn : ℕ → ℕ
-  headingIn z = byte (4 * z + 9)
+  headingIn z = byte (zoneFrom z + (stride - 1))
 
   -- the point where the word w starts
   abbrev pub endSaid : ℕ → ℕ
-  endSaid w = byte (4 * (w / 2) + w % 2 + 6)
+  endSaid w = byte (zoneFrom (w / 2) + w % 2)
 
   -- the track and the first position that the bytes say
   unfoldable pub trackSaid : Track
@@ -63,17 +83,17 @@ module _ (b : List ℕ) where
   unfoldable pub wrongLength : Bool
   wrongLength = not (eqb (lengthSaid + 2) (length b))
 
-  -- row 3: version isn't 1
+  -- row 3: version is neither 1 nor 2
   unfoldable pub wrongVersion : Bool
-  wrongVersion = not (eqb (byte 2) 1)
+  wrongVersion = not (eqb versionSaid 1 || wide)
 
   -- row 4: P, home or Z out of range
   unfoldable pub outOfRange : Bool
   outOfRange = not (leb 2 pointsSaid && (leb pointsSaid 64 && (ltb homeSaid pointsSaid && (leb 2 zonesSaid && leb zonesSaid 96))))
 
-  -- row 5: L isn't 4 + 4 × Z
+  -- row 5: L isn't 4 + 4 × Z in version 1, 4 + 5 × Z in version 2
   unfoldable pub wrongCount : Bool
-  wrongCount = not (eqb lengthSaid (4 + 4 * zonesSaid))
+  wrongCount = not (eqb lengthSaid (4 + stride * zonesSaid))
 
   -- row 6, of one zone: an end not below P, heading over 1, or a free zone with heading 1. Equal ends are allowed.
   unfoldable pub badZone : ℕ → Bool

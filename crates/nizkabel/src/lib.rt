@@ -9,7 +9,7 @@ ghost use Rattle.exam.specs.Operations.{KeyPromise, CollapsePromise, MarkPromis
 pub extern "C" fn nizkabel_key(
     board: &[u8],
     plan: &mut [u16],
-    list: &mut [u8],
+    list: &mut [u16],
     out: &mut [u32; 2],
 ) -> u32
     ensures { λ r. ⌜ KeyPromise (now (board .entry)) (now (plan .entry)) (now (list .entry)) r (getD (now (out .exit)) 0 0) (getD (now (out .exit)) 1 0) (now (plan .exit)) (now (list .exit)) ⌝ }
@@ -23,7 +23,7 @@ pub extern "C" fn nizkabel_key(
 
 // The collapse of the board: out[0] is the count of carriers in the list.
 #[no_mangle]
-pub extern "C" fn nizkabel_collapse(board: &[u8], list: &mut [u8], out: &mut [u32; 1]) -> u32
+pub extern "C" fn nizkabel_collapse(board: &[u8], list: &mut [u16], out: &mut [u32; 1]) -> u32
     ensures { λ r. ⌜ CollapsePromise (now (board .entry)) (now (list .entry)) r (getD (now (out .exit)) 0 0) (now (list .exit)) ⌝ }
 {
     let left = exam::collapse(board, list);

@@ -10,7 +10,7 @@ use Rattle.model.specs.declared.Summary.{Summary}
 use Rattle.model.specs.Reading.{refusal, trackSaid, positionSaid}
 use Rattle.rules.specs.Routes.{Entry}
 use Rattle.rules.specs.Key.{planWords}
-use Rattle.page.specs.Page.{refusedPage, tooLongPage, pageFor, pageOf, PAGE}
+use Rattle.page.specs.Page.{refusedPage, tooLongPage, pageFor, pageOf, LONGEST, PAGE}
 use Rattle.page.specs.Writing.{Writable}
 use Rattle.page.proofs.PlanLaws.{is-plan, entries-in-plan}
 use Rattle.page.proofs.Bound.{SmallKey, key-page-fits}
@@ -25,14 +25,14 @@ writable es written plan-in list-in small long = record {
 }
 
 module _ (b : List ℕ) where
-  pub page-too-long : 390 < length b → pageOf b ≡ tooLongPage
+  pub page-too-long : LONGEST < length b → pageOf b ≡ tooLongPage
   unfolding pageOf
-  page-too-long long = rw (lt-ltb 390 (length b) long)
+  page-too-long long = rw (lt-ltb LONGEST (length b) long)
 
-  pub page-refused : length b ≤ 390 → (refusal b ≡ 0 → ⊥) → pageOf b ≡ refusedPage (refusal b)
+  pub page-refused : length b ≤ LONGEST → (refusal b ≡ 0 → ⊥) → pageOf b ≡ refusedPage (refusal b)
   unfolding pageOf
-  page-refused short wrong = rw (le-ltb 390 (length b) short, ne-eqb (refusal b) 0 wrong)
+  page-refused short wrong = rw (le-ltb LONGEST (length b) short, ne-eqb (refusal b) 0 wrong)
 
-  pub page-right : length b ≤ 390 → refusal b ≡ 0 → pageOf b ≡ pageFor (trackSaid b) (positionSaid b)
+  pub page-right : length b ≤ LONGEST → refusal b ≡ 0 → pageOf b ≡ pageFor (trackSaid b) (positionSaid b)
   unfolding pageOf
-  page-right short right = rw (le-ltb 390 (length b) short, eq-eqb (refusal b) 0 right)
+  page-right short right = rw (le-ltb LONGEST (length b) short, eq-eqb (refusal b) 0 right)

@@ -1,10 +1,11 @@
--- A number in decimal: one digit below 10, else the number without its last digit and then that digit; three digits at most below 1000.
+-- A number in decimal: one digit below 10, else the number without its last digit and then that digit; below 10 ^ k at most k digits.
 -- How far `digitsOf` may go is of no matter once it is above the number.
-use Prim.Native.Nat.{ℕ, zero, suc, _+_, _/_, _%_, _≤_, _<_}
+use Prim.Native.Nat.{ℕ, zero, suc, _+_, _/_, _%_, _^_, _≤_, _<_}
 use mathlib.Core.Path.{_≡_, refl, ap, _∙_}
 use mathlib.Core.List.{List, [], _∷_, _++_}
 use mathlib.Core.Bool.{Bool, true, false}
 use native.Mathlib.Omega.{arith}
+use native.Mathlib.Nat.{pow-zero, pow-suc}
 use borrow.Author.Tests.{lt-ltb, le-ltb, ltb-true, ltb-false}
 use lib.ListN.{length, length-append}
 use lib.Dec.{ltb}
@@ -38,18 +39,13 @@ unfolding decimal
 decimal-more n h =
     digits-more n n h ∙ ap (λ (l : List ℕ). l ++ ((48 + n % 10) ∷ [])) (digits-enough n (suc (n / 10)) (n / 10) (omega arith) (omega arith))
 
-longer : (n m : ℕ) → (n < 10 → 1 ≤ m) → (10 ≤ n → length (decimal (n / 10)) < m) → length (decimal n) ≤ m
-longer n m few more = go (ltb n 10) refl
+longer : (n m : ℕ) → (10 ≤ n → length (decimal (n / 10)) ≤ m) → length (decimal n) ≤ suc m
+longer n m more = go (ltb n 10) refl
   where
-    go : (t : Bool) → ltb n 10 ≡ t → length (decimal n) ≤ m
-    go true e = rw (decimal-few n (ltb-true n 10 e)) (few (ltb-true n 10 e))
-    go false e = rw (decimal-more n (ltb-false n 10 e), length-append) (let h : length (decimal (n / 10)) < m = more (ltb-false n 10 e) in omega arith)
+    go : (t : Bool) → ltb n 10 ≡ t → length (decimal n) ≤ suc m
+    go true e = rw (decimal-few n (ltb-true n 10 e)) (omega arith)
+    go false e = rw (decimal-more n (ltb-false n 10 e), length-append) (omega (arith, more (ltb-false n 10 e)))
 
-pub below-ten : (n : ℕ) → n < 10 → length (decimal n) ≤ 1
-below-ten n h = longer n 1 (λ _. omega arith) (λ m. absurd (omega arith))
-
-pub below-hundred : (n : ℕ) → n < 100 → length (decimal n) ≤ 2
-below-hundred n h = longer n 2 (λ _. omega arith) (λ m. let d : length (decimal (n / 10)) ≤ 1 = below-ten (n / 10) (omega arith) in omega arith)
-
-pub below-thousand : (n : ℕ) → n < 1000 → length (decimal n) ≤ 3
-below-thousand n h = longer n 3 (λ _. omega arith) (λ m. let d : length (decimal (n / 10)) ≤ 2 = below-hundred (n / 10) (omega arith) in omega arith)
+pub digits-most : (k n : ℕ) → n < 10 ^ suc k → length (decimal n) ≤ suc k
+digits-most zero n h = longer n zero (λ m. absurd (omega (arith, pow-suc 10 zero, pow-zero 10)))
+digits-most (suc k) n h = longer n (suc k) (λ m. digits-most k (n / 10) (omega (arith, pow-suc 10 (suc k))))

@@ -81,7 +81,11 @@ keyPage summary verdict es blocked =
 unfoldable pub refusedPage : ℕ → List ℕ
 refusedPage number = inSequence (labelled (spelled "refused ") number ∷ spelled "\n" ∷ [])
 
--- the page of a board of over 390 bytes
+-- no board has more bytes: six and 96 × 5
+abbrev pub LONGEST : ℕ
+LONGEST = 486
+
+-- the page of more bytes than that
 abbrev pub tooLongPage : List ℕ
 tooLongPage = spelled "too long\n"
 
@@ -93,9 +97,9 @@ unfoldable pub pageOf : List ℕ → List ℕ
 pageOf b =
     let refused = refusedPage (refusal b) in
     let page = pageFor (trackSaid b) (positionSaid b) in
-    cond (ltb 390 (length b)) tooLongPage
+    cond (ltb LONGEST (length b)) tooLongPage
     (cond (eqb (refusal b) 0) page refused)
 
--- enough bytes for every page of at most 96 zones: 47 for the first two lines, 96 lines of 778, and 392 for the blocked list
+-- enough bytes for every page of at most 96 zones: 47 for the first two lines, 96 lines of 780, and 584 for the blocked list
 abbrev pub PAGE : ℕ
-PAGE = 75127
+PAGE = 75511

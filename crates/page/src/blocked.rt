@@ -5,7 +5,7 @@ ghost use Rattle.page.specs.Page.{decimal, spaced, blockedText};
 ghost use Rattle.page.specs.Writing.{TextRoom, Put};
 
 // Each carrier after a space.
-pub fn put_carriers(page: &mut [u8], at: usize, list: &[u8]) -> usize
+pub fn put_carriers(page: &mut [u8], at: usize, list: &[u16]) -> usize
     requires { ⌜ TextRoom at (spaced decimal (now list)) (now page) ⌝ }
     ensures { λ r. ⌜ Put at (spaced decimal (now (list .entry))) (now (page .entry)) (now (page .exit)) r ⌝ }
 {
@@ -20,7 +20,7 @@ pub fn put_carriers(page: &mut [u8], at: usize, list: &[u8]) -> usize
 }
 
 // The carriers, or `none` where there is none.
-pub fn put_list(page: &mut [u8], at: usize, list: &[u8]) -> usize
+pub fn put_list(page: &mut [u8], at: usize, list: &[u16]) -> usize
     requires { ⌜ TextRoom at (blockedText (now list)) (now page) ⌝ }
     ensures { λ r. ⌜ Put at (blockedText (now (list .entry))) (now (page .entry)) (now (page .exit)) r ⌝ }
 {

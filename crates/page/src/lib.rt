@@ -21,7 +21,7 @@ pub fn write_key(
     verdict: u32,
     plan: &[u16],
     planned: usize,
-    list: &[u8],
+    list: &[u16],
     listed: usize,
     page: &mut [u8],
 ) -> usize
@@ -44,7 +44,7 @@ pub fn write_refused(number: u32, page: &mut [u8]) -> usize
     put_text(page, next, b"\n")
 }
 
-// The page of a board of over 390 bytes.
+// The page of more bytes than a board has.
 pub fn write_too_long(page: &mut [u8]) -> usize
     requires { ⌜ length tooLongPage ≤ length (now page) ⌝ }
     ensures { λ r. ⌜ Begins tooLongPage (now (page .entry)) (now (page .exit)) r ⌝ }

@@ -8,7 +8,7 @@ use lib.ListN.{length}
 use lib.Dec.{T, ltb, ltb→lt, lit<}
 use Rattle.model.specs.Track.{Track, zoneOf, headingOf}
 use Rattle.model.specs.Position.{Position, at, Stands}
-use Rattle.model.specs.Reading.{trackSaid, positionSaid}
+use Rattle.model.specs.Reading.{trackSaid, positionSaid, stride, carrierIn}
 use Rattle.rules.specs.Tries.{into, Allowed, UngatedAllowed, enters, arrives, Moved, Moves}
 use Rattle.rules.specs.Starred.{boardT, turnWith, turnMoves}
 use Rattle.rules.specs.Table.{boardK}
@@ -22,7 +22,7 @@ abbrev turn : Track
 turn = trackSaid (turnWith 6 1)
 
 pub turn-emptied : Moves turn (positionSaid (turnWith 6 1)) turnMoves (0 ∷ 0 ∷ 0 ∷ [])
-unfolding turnWith turnMoves trackSaid positionSaid
+unfolding turnWith turnMoves trackSaid positionSaid stride carrierIn
 turn-emptied =
     Moves.more (Moved.done (enters 0 (stands _ 5 0 tt tt refl) (λ e. omega arith) (lit< tt) refl refl))
     (Moves.more (Moved.done (enters 3 (stands _ 6 3 tt tt refl) (λ e. omega arith) (lit< tt) refl refl))
@@ -40,15 +40,15 @@ headingHome = 0 ∷ 15 ∷ []
 
 -- from there it could go on into word 0
 pub went-on-before : UngatedAllowed trackK headingHome (into 7 0) (14 ∷ 0 ∷ [])
-unfolding boardK boardT trackSaid
+unfolding boardK boardT trackSaid stride
 went-on-before = enters 3 (stands _ 7 3 tt tt refl) tt (lit< tt) refl refl
 
 pub goes-on-no-more : (q : Position) → Allowed trackK headingHome (into 7 0) q → ⊥
-unfolding boardK boardT trackSaid
+unfolding boardK boardT trackSaid stride
 goes-on-no-more q (enters u s elsewhere below free touches) = elsewhere (sym touches)
 
 pub gate-moves : Moves trackK (positionSaid boardK) gateMoves (0 ∷ 0 ∷ [])
-unfolding boardK boardT gateMoves trackSaid positionSaid
+unfolding boardK boardT gateMoves trackSaid positionSaid stride carrierIn
 gate-moves =
     Moves.more (Moved.done (enters 0 (stands _ 7 0 tt tt refl) (λ e. omega arith) (lit< tt) refl refl))
     (Moves.more (Moved.forbidden goes-on-no-more)

@@ -1,4 +1,5 @@
--- Every row of the five tables holds: the starred boards, the table of verdicts, the boards with turning loops, the home gate, the two-zone rule.
+-- Every row of the six tables holds: the starred boards, the table of verdicts, the boards with turning loops, the home gate, the two-zone rule,
+-- the boards of version 2.
 -- The definitions compute: one `refl` for a whole table. So many rows stand in each, lest an empty table hold.
 use mathlib.Core.List.{flatten}
 use mathlib.Core.Path.{_≡_, refl}
@@ -9,6 +10,7 @@ use Rattle.rules.specs.Table.{table, headed, boardK, zonesFree}
 use Rattle.rules.specs.TurningLoops.{loopAtHome, turningLoops}
 use Rattle.rules.specs.HomeGate.{nearHome, otherHome, homeGate}
 use Rattle.rules.specs.TwoZoneRule.{twoZoneRule}
+use Rattle.rules.specs.WideCarriers.{wideZonesFree, wideCarriers}
 
 pub starred-rows : length starred ≡ 10
 unfolding starred
@@ -49,3 +51,11 @@ two-zone-rows = refl
 pub two-zone-holds : Hold twoZoneRule
 unfolding twoZoneRule flatten given
 two-zone-holds = refl
+
+pub wide-rows : length wideCarriers ≡ 34
+unfolding wideCarriers
+wide-rows = refl
+
+pub wide-hold : Hold wideCarriers
+unfolding wideCarriers wideZonesFree headed given
+wide-hold = refl

@@ -64,7 +64,7 @@ pub record CollapseAnswer : Type 0 where
   pub number : ℕ
   pub list : List ℕ
 
--- row 11: the list lent has under C bytes
+-- row 11: the list lent has under C words
 unfoldable pub collapseIn : Track → Position → ℕ → CollapseAnswer
 collapseIn t p listRoom =
     let l = left t p in

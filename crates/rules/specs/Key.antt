@@ -112,7 +112,7 @@ module _ (test : StepTest) where
   unfoldable pub keyForBy : Track → Position → KeyAnswer
   keyForBy t p = record { verdict = verdictOf (namedBy t p); plan = planWords (runBy t p .plan); list = namedBy t p }
 
-  -- row 10: the plan lent has under C × (2 + 2 × Z) words; row 11: the list lent has under C bytes
+  -- row 10: the plan lent has under C × (2 + 2 × Z) words; row 11: the list lent has under C words
   unfoldable pub keyInBy : Track → Position → ℕ → ℕ → KeyAnswer
   keyInBy t p planRoom listRoom =
       let k = keyForBy t p in

@@ -10,3 +10,4 @@ pub mod Table
 pub mod TurningLoops
 pub mod HomeGate
 pub mod TwoZoneRule
+pub mod WideCarriers

@@ -4,7 +4,7 @@ use Prim.Native.Nat.{ℕ}
 use mathlib.Core.List.{List, [], map}
 use mathlib.Core.Path.{_≡_}
 use Rattle.model.specs.Labels.{parts, joinZones, joinPoints}
-use Rattle.model.specs.Reading.{refusal, tooShort, wrongLength, wrongVersion, outOfRange, wrongCount, badZone, repeated, underTwo, apart, trackSaid, positionSaid}
+use Rattle.model.specs.Reading.{refusal, tooShort, wrongLength, wrongVersion, outOfRange, wrongCount, badZone, repeated, underTwo, apart, trackSaid, positionSaid, stride, carrierIn}
 use Rattle.rules.specs.Search.{leastFrom, wordsTo, goalIn}
 use Rattle.rules.specs.Key.{KeyAnswer, turnedBack, ungatedSteps, keyOf, keyOfBy, keyInBy, keyFor, keyForBy, namedBy, runBy, runForBy, firstToGoBy, leastRouteBy, zoneFor, nexts, nextsBy, planWords}
 use Rattle.rules.specs.Collapse.{CollapseAnswer, collapseOf, collapseIn, left, mergeAll, mergeZone, joined, turns, loopIn, freeParts}
@@ -29,7 +29,7 @@ pub data Answer : Type 0 where
 
 -- what the definitions give, computed
 unfoldable pub given : Row → Answer
-unfolding keyOfBy keyInBy keyForBy namedBy runBy runForBy firstToGoBy leastRouteBy zoneFor nextsBy planWords leastFrom wordsTo goalIn collapseOf collapseIn left mergeAll mergeZone joined turns loopIn freeParts parts joinZones joinPoints refusal tooShort wrongLength wrongVersion outOfRange wrongCount badZone repeated underTwo apart trackSaid positionSaid markOfBy markForBy markClaimBy sameList markEntriesBy markEntryBy markEnd endsHome byRulesBy followBy stillOut
+unfolding keyOfBy keyInBy keyForBy namedBy runBy runForBy firstToGoBy leastRouteBy zoneFor nextsBy planWords leastFrom wordsTo goalIn collapseOf collapseIn left mergeAll mergeZone joined turns loopIn freeParts parts joinZones joinPoints refusal tooShort wrongLength wrongVersion outOfRange wrongCount badZone repeated underTwo apart trackSaid positionSaid stride carrierIn markOfBy markForBy markClaimBy sameList markEntriesBy markEntryBy markEnd endsHome byRulesBy followBy stillOut
 given (onBoard b m n k c) = ofBoard (keyOf b m n) (collapseOf b n)
 given (onSheet b ws n) = ofSheet (markOf b ws)
 given (atGate b ws o n) = ofGate (markOfBy ungatedSteps b ws) (markOf b ws)

@@ -1,6 +1,6 @@
--- The table of verdicts of document 01, each number with its own input, and inputs beside them that tell a row from its neighbours. Only for 6
--- another stands here: its own has equal ends, which request c of document 02 allows (TurningLoops.antt). With the starred boards these pin the
--- numbers, the rooms and the layout of bytes that no theorem speaks of.
+-- The table of verdicts of document 01, each number with its own input, and inputs beside them that tell a row from its neighbours. Only for 3
+-- and 6 others stand here: their own have version 2 and equal ends, which requests i and c of document 02 allow (WideCarriers.antt,
+-- TurningLoops.antt). With the starred boards these pin the numbers, the rooms and the layout of bytes that no theorem speaks of.
 use Prim.Native.Nat.{ℕ}
 use mathlib.Core.List.{List, [], _∷_}
 use Rattle.rules.specs.Key.{turnedBack}
@@ -29,11 +29,11 @@ table =
     refusedBoard (0 ∷ 12 ∷ 1 ∷ []) 1 ∷
     refusedBoard [] 1 ∷
     refusedBoard (0 ∷ 3 ∷ 1 ∷ 2 ∷ 0 ∷ []) 1 ∷
-    refusedBoard (0 ∷ 4 ∷ 2 ∷ 2 ∷ 0 ∷ 2 ∷ []) 3 ∷
+    refusedBoard (0 ∷ 4 ∷ 3 ∷ 2 ∷ 0 ∷ 2 ∷ []) 3 ∷
     refusedBoard (0 ∷ 12 ∷ 1 ∷ 2 ∷ 0 ∷ 2 ∷ 0 ∷ 1 ∷ 0 ∷ 0 ∷ 0 ∷ 1 ∷ 0 ∷ []) 2 ∷
     refusedBoard (headed 1 12 1 2 0 2) 2 ∷
-    refusedBoard (headed 0 12 2 2 0 2) 3 ∷
-    refusedBoard (headed 0 12 2 0 0 2) 3 ∷
+    refusedBoard (headed 0 12 3 2 0 2) 3 ∷
+    refusedBoard (headed 0 12 3 0 0 2) 3 ∷
     refusedBoard (headed 0 12 1 1 0 2) 4 ∷
     refusedBoard (headed 0 12 1 65 0 2) 4 ∷
     refusedBoard (headed 0 12 1 2 2 2) 4 ∷

@@ -1,4 +1,4 @@
--- The page of at most 390 bytes, from what the key gives into room for every plan and list: 18,624 words and 96 carriers are always enough,
+-- The page of at most 486 bytes, from what the key gives into room for every plan and list: 18,624 words and 96 carriers are always enough,
 -- so the key turns a board back exactly where the reader refuses it, and what it wrote is read back by its lengths.
 use Prim.Native.Nat.{ℕ, _≤_}
 use mathlib.Core.List.{List}
@@ -17,7 +17,7 @@ use Rattle.model.proofs.ReadingLaws.{refusal-small, ready-said}
 use Rattle.rules.specs.Key.{KeyAnswer, turnsBack, run, named, verdictOf, planWords, keyFor, keyForBy, keyOf}
 use Rattle.order.proofs.Sizes.{plan-room, named-most}
 use Rattle.board.proofs.ReadBoard.{Bytes}
-use Rattle.page.specs.Page.{keyPage, refusedPage, pageFor, pageOf, PAGE}
+use Rattle.page.specs.Page.{keyPage, refusedPage, pageFor, pageOf, LONGEST, PAGE}
 use Rattle.page.specs.Writing.{entriesIn, Begins, Writable}
 use Rattle.page.proofs.PlanLaws.{entries-in-plan}
 use Rattle.page.proofs.Bound.{SmallKey, refused-page-fits}
@@ -62,7 +62,7 @@ module _ (b : List ℕ) {plan list plan′ list′ : List ℕ} {verdict planned 
         let f = refused-page-fits verdict (omega (arith, turned-back (refused back))) in
         omega arith
 
-    pub refused-begun : {before after : List ℕ} {n : ℕ} → length b ≤ 390 → turnsBack verdict ≡ true → Begins (refusedPage verdict) before after n → Begins (pageOf b) before after n
+    pub refused-begun : {before after : List ℕ} {n : ℕ} → length b ≤ LONGEST → turnsBack verdict ≡ true → Begins (refusedPage verdict) before after n → Begins (pageOf b) before after n
     refused-begun short back = same-page (page-refused b short (refused back) ∙ ap refusedPage (sym (turned-back (refused back))))
 
     module _ {summary : Summary} (said : summary ≡ summaryOf t p verdict) (on : turnsBack verdict ≡ false) where
@@ -115,6 +115,6 @@ module _ (b : List ℕ) {plan list plan′ list′ : List ℕ} {verdict planned 
           (omega (arith, listed-is, named-most t p (ready .bounded .laid), few-out ready, list-long, list-kept))
           small-key room
 
-      pub page-begun : {before after : List ℕ} {n : ℕ} → length b ≤ 390 → Begins (keyPage summary verdict (entriesIn (take planned plan′)) (take listed list′)) before after n → Begins (pageOf b) before after n
+      pub page-begun : {before after : List ℕ} {n : ℕ} → length b ≤ LONGEST → Begins (keyPage summary verdict (entriesIn (take planned plan′)) (take listed list′)) before after n → Begins (pageOf b) before after n
       unfolding pageFor
       page-begun short begins = same-page (page-right b short accepted) (rw (summary-is, verdict-is, entries-in-plan (run t p .plan) plan-written, list-written) at begins)

@@ -9,7 +9,7 @@ use borrow.Author.Tests.{leb-true, leb-false}
 use lib.ListN.{length}
 use lib.Dec.{leb}
 use Rattle.board.proofs.ReadBoard.{Bytes}
-use Rattle.page.specs.Page.{tooLongPage, pageOf, PAGE}
+use Rattle.page.specs.Page.{tooLongPage, pageOf, LONGEST, PAGE}
 use Rattle.page.specs.Writing.{Begins}
 use Rattle.page.proofs.Callers.{page-too-long}
 use Rattle.text.specs.Text.{KeyText}
@@ -19,7 +19,7 @@ use Rattle.text.proofs.Sizes.{page-fits}
 pub same-page : {text page before after : List ℕ} {n : ℕ} → page ≡ text → Begins text before after n → Begins page before after n
 same-page {before = before} {after} {n} e begins = subst (λ (l : List ℕ). Begins l before after n) (sym e) begins
 
-pub too-long-begun : (b : List ℕ) {before after : List ℕ} {n : ℕ} → 390 < length b → Begins tooLongPage before after n → Begins (pageOf b) before after n
+pub too-long-begun : (b : List ℕ) {before after : List ℕ} {n : ℕ} → LONGEST < length b → Begins tooLongPage before after n → Begins (pageOf b) before after n
 too-long-begun b long = same-page (page-too-long b long)
 
 module _ (b : List ℕ) (small : Bytes b) where

@@ -1,5 +1,5 @@
 -- What a page is written from is small on every position that is ready, so every page fits: at most 96 zones with at most 96 carriers,
--- carriers below 256, routes of at most 192 words. From the sizes of the key's plan and list.
+-- carriers below 65,536, routes of at most 192 words. From the sizes of the key's plan and list.
 use Prim.Native.Nat.{ℕ, _≤_, _<_}
 use mathlib.Core.List.{List, [], _∷_, List·Memᴰ, Memᴰ·map}
 use native.Mathlib.Omega.{arith}
@@ -24,7 +24,7 @@ verdict-small [] = omega arith
 verdict-small (c ∷ l) = omega arith
 
 module _ {t : Track} {p : Position} (ready : Ready t p) where
-  out-small : {c : ℕ} → Out p c → c < 1000
+  out-small : {c : ℕ} → Out p c → c < 65536
   out-small (w, s) = omega (arith, s .holds, ready .limited (zoneOf w))
 
   entry-small : (e : Entry) → List·Memᴰ e (run t p .plan) → SmallEntry e

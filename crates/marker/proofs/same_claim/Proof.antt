@@ -33,11 +33,11 @@ mul-word c = omega arith
 shared-slice-read-word : tie.Need-shared-slice-read-word Inv-loop μ-loop
 shared-slice-read-word c = omega arith
 
+mul-carrier : tie.Need-mul-carrier Inv-loop μ-loop
+mul-carrier c = omega arith
+
 shared-slice-read-carrier : tie.Need-shared-slice-read-carrier Inv-loop μ-loop
 shared-slice-read-carrier c = omega arith
-
-cast-carrier : tie.Need-cast-carrier Inv-loop μ-loop
-cast-carrier c = omega (arith, c .shared-slice-known2 .given (c .before .before .before .loop .i))
 
 returns-2 : tie.Need-returns-2 Inv-loop μ-loop
 returns-2 c = sym (numbers-differ (c .before .before .before .before .loop .inv) (c .before .before .before .before .before .before .pre .0) (c .before .before .before .loop-test .taken) (c .if2 .taken))
@@ -66,8 +66,8 @@ same-claim-spec =
     add-word
     mul-word
     shared-slice-read-word
+    mul-carrier
     shared-slice-read-carrier
-    cast-carrier
     returns-2
     add-i
     loop-less

@@ -7,45 +7,34 @@ use lib.ListN.{length}
 use Rattle.board.specs.Inner.{WaysOf}
 use Rattle.board.proofs.Doubling.{StartsTwice, starts-first, starts-zone, starts-last}
 use Rattle.board.proofs.Together.{ways-first, ways-zone, ways-last, added-size, first-in, second-in}
+use Rattle.board.proofs.ZoneBytes.{zone-in}
 use Rattle.board.proofs.links.add_ways.Statement.{statement}
 use Rattle.board.proofs.links.add_ways.Tie as tie
 
 abbrev Inv-loop : tie.InvT-loop
-Inv-loop bytes ways₀ zones once₀ twice₀ z₀ ways once twice z = (z ≤ zones) × WaysOf bytes ways (2 * z) × StartsTwice bytes once twice (2 * z)
+Inv-loop bytes ways₀ zones stride once₀ twice₀ z₀ ways once twice z = (z ≤ zones) × WaysOf bytes ways (2 * z) × StartsTwice bytes once twice (2 * z)
 
 abbrev μ-loop : tie.MeasureT-loop
-μ-loop bytes ways₀ zones once₀ twice₀ z₀ ways once twice z = zones - z
+μ-loop bytes ways₀ zones stride once₀ twice₀ z₀ ways once twice z = zones - z
 
 -- both ends of the zone are points
-first : (c : tie.After-byte3 Inv-loop μ-loop) → c .before .byte2 .result < 64
-first c = let looping = c .before .before in first-in (looping .before .before .before .before .before .pre .0 .1) (looping .before .before .byte .ensures) (looping .loop-test .taken) (c .before .byte2 .ensures)
+first : (c : tie.After-zone-at Inv-loop μ-loop) → c .zone-at .result .a < 64
+first c = let looping = c .before in first-in (looping .before .before .before .before .before .before .pre .0 .1) (looping .before .before .before .byte .ensures) (looping .loop-test .taken) (c .zone-at .ensures)
 
-second : (c : tie.After-byte3 Inv-loop μ-loop) → c .byte3 .result < 64
-second c = let looping = c .before .before in second-in (looping .before .before .before .before .before .pre .0 .1) (looping .before .before .byte .ensures) (looping .loop-test .taken) (c .byte3 .ensures)
+second : (c : tie.After-zone-at Inv-loop μ-loop) → c .zone-at .result .b < 64
+second c = let looping = c .before in second-in (looping .before .before .before .before .before .before .pre .0 .1) (looping .before .before .before .byte .ensures) (looping .loop-test .taken) (c .zone-at .ensures)
 
 byte-requires : tie.Need-byte-requires Inv-loop μ-loop
 byte-requires c κs = omega (arith, c .before .before .pre .0 .0)
 
+stride-requires : tie.Need-stride-requires Inv-loop μ-loop
+stride-requires c κs = omega (arith, c .before .before .before .pre .0 .0)
+
 loop-holds : tie.Need-loop-holds Inv-loop μ-loop
-loop-holds c = (omega arith, ways-first (c .before .before .before .args .bytes .now) (c .before .before .before .pre .1), starts-first _)
+loop-holds c = (omega arith, ways-first (c .before .before .before .before .args .bytes .now) (c .before .before .before .before .pre .1), starts-first _)
 
-mul-byte : tie.Need-mul-byte Inv-loop μ-loop
-mul-byte c = omega arith
-
-add-byte : tie.Need-add-byte Inv-loop μ-loop
-add-byte c = omega arith
-
-byte-requires-2 : tie.Need-byte-requires-2 Inv-loop μ-loop
-byte-requires-2 c κs = omega (arith, c .before .before .before .before .before .pre .0 .0, c .before .before .byte .ensures .is)
-
-mul-byte-2 : tie.Need-mul-byte-2 Inv-loop μ-loop
-mul-byte-2 c = omega arith
-
-add-byte-2 : tie.Need-add-byte-2 Inv-loop μ-loop
-add-byte-2 c = omega arith
-
-byte-requires-3 : tie.Need-byte-requires-3 Inv-loop μ-loop
-byte-requires-3 c κs = omega (arith, c .before .before .before .before .before .before .pre .0 .0, c .before .before .before .byte .ensures .is)
+zone-at-requires : tie.Need-zone-at-requires Inv-loop μ-loop
+zone-at-requires c κs = zone-in (c .before .before .before .before .before .before .pre .0 .0) (c .before .before .stride .ensures) (c .before .before .before .byte .ensures) (c .loop-test .taken)
 
 add-second-requires : tie.Need-add-second-requires Inv-loop μ-loop
 add-second-requires c κs = first c
@@ -60,13 +49,13 @@ with-requires-2 : tie.Need-with-requires-2 Inv-loop μ-loop
 with-requires-2 c κs = second (c .before .before .before)
 
 add-way-requires : tie.Need-add-way-requires Inv-loop μ-loop
-add-way-requires c κs = let read = c .before .before .before .before .before in (omega (arith, read .before .before .before .loop .inv .1 .long, first read), second read)
+add-way-requires c κs = let read = c .before .before .before .before .before in (omega (arith, read .before .before .loop .inv .1 .long, first read), second read)
 
 add-way-requires-2 : tie.Need-add-way-requires-2 Inv-loop μ-loop
 add-way-requires-2 c κs =
     let laid = c .before .before .before in
     let read = laid .before .before .before .before .before .before in
-    (omega (arith, added-size (read .before .before .before .loop .inv .1) (read .before .byte2 .ensures) (read .byte3 .ensures) (laid .add-way .ensures), second read), first read)
+    (omega (arith, added-size (read .before .before .loop .ways) (read .zone-at .result .a) (read .zone-at .result .b) (read .before .before .loop .inv .1 .long) (laid .add-way .ensures), second read), first read)
 
 add-z : tie.Need-add-z Inv-loop μ-loop
 add-z c = omega arith
@@ -79,19 +68,19 @@ loop-again c =
     let laid = c .before .before .before .before .before .before in
     let taken = laid .before .before in
     let read = taken .before .before .before .before in
-    let looping = read .before .before .before in (
+    let inv = read .before .before .loop .inv in (
       omega arith,
-      ways-zone _ (looping .loop .inv .1) (read .before .byte2 .ensures) (read .byte3 .ensures) (first read) (second read) (laid .add-way .ensures) (c .before .before .add-way2 .ensures),
-      starts-zone _ (looping .loop .inv .2) (read .before .byte2 .ensures) (read .byte3 .ensures) (taken .before .before .with .ensures) (taken .before .before .before .add-second .ensures) (taken .with2 .ensures) (taken .before .add-second2 .ensures),
+      ways-zone (inv .1) (read .zone-at .ensures) (first read) (second read) (laid .add-way .ensures) (c .before .before .add-way2 .ensures),
+      starts-zone (inv .2) (read .zone-at .ensures) (taken .before .before .with .ensures) (taken .before .before .before .add-second .ensures) (taken .with2 .ensures) (taken .before .add-second2 .ensures),
     )
 
 same-length : tie.Need-same-length Inv-loop μ-loop
-same-length c = c .before .loop .inv .1 .long ∙ sym (ap length (c .before .before .before .before .before .pre .1))
+same-length c = c .before .loop .inv .1 .long ∙ sym (ap length (c .before .before .before .before .before .before .pre .1))
 
 returns : tie.Need-returns Inv-loop μ-loop
 returns c =
     let inv = c .before .loop .inv in
-    let zones = c .before .before .byte .ensures in
+    let zones = c .before .before .before .byte .ensures in
     (ways-last zones (inv .0) (c .loop-test .left) (inv .1), starts-last zones (inv .0) (c .loop-test .left) (inv .2))
 
 pub add-ways-spec : {M : Type 1} → statement M
@@ -101,13 +90,9 @@ add-ways-spec =
     Inv-loop
     μ-loop
     byte-requires
+    stride-requires
     loop-holds
-    mul-byte
-    add-byte
-    byte-requires-2
-    mul-byte-2
-    add-byte-2
-    byte-requires-3
+    zone-at-requires
     add-second-requires
     with-requires
     add-second-requires-2

@@ -23,6 +23,9 @@ slice-write-page c = space-room (c .before .loop .inv) (c .loop-test .taken)
 add-put-decimal : tie.Need-add-put-decimal Inv-loop μ-loop
 add-put-decimal c = let in-page = space-room (c .before .before .loop .inv) (c .before .loop-test .taken) in omega arith
 
+mul-put-decimal : tie.Need-mul-put-decimal Inv-loop μ-loop
+mul-put-decimal c = omega arith
+
 shared-slice-read-put-decimal : tie.Need-shared-slice-read-put-decimal Inv-loop μ-loop
 shared-slice-read-put-decimal c = omega arith
 
@@ -56,6 +59,7 @@ put-carriers-spec =
     loop-holds
     slice-write-page
     add-put-decimal
+    mul-put-decimal
     shared-slice-read-put-decimal
     cast-put-decimal
     put-decimal-requires

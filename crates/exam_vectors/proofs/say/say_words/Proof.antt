@@ -1,26 +1,23 @@
--- `say_list` is safe and ends.
--- The measure is what is left of the list.
+-- `say_words` is safe and ends.
+-- The measure is what is left of the words.
 use Prim.Native.Nat.{_-_}
 use native.Mathlib.Omega.{arith}
 use lib.ListN.{length}
 use borrow.Author.Needs.{needs}
-use Rattle.exam_vectors.proofs.say.say_list.Statement.{statement}
-use Rattle.exam_vectors.proofs.say.say_list.Tie as tie
+use Rattle.exam_vectors.proofs.say.say_words.Statement.{statement}
+use Rattle.exam_vectors.proofs.say.say_words.Tie as tie
 
 abbrev Inv-loop : tie.InvT-loop
-Inv-loop list i₀ i = Unit {0}
+Inv-loop words i₀ i = Unit {0}
 
 abbrev μ-loop : tie.MeasureT-loop
-μ-loop list i₀ i = length list - i
-
-slice-aggregate-write-all : tie.Need-slice-aggregate-write-all Inv-loop μ-loop
-slice-aggregate-write-all c = search needs
-
-write-all-requires : tie.Need-write-all-requires Inv-loop μ-loop
-write-all-requires c κs = search needs
+μ-loop words i₀ i = length words - i
 
 loop-holds : tie.Need-loop-holds Inv-loop μ-loop
 loop-holds c = search needs
+
+mul-item : tie.Need-mul-item Inv-loop μ-loop
+mul-item c = search needs
 
 shared-slice-read-item : tie.Need-shared-slice-read-item Inv-loop μ-loop
 shared-slice-read-item c = search needs
@@ -43,15 +40,14 @@ loop-again c = search needs
 returns : tie.Need-returns Inv-loop μ-loop
 returns c = search needs
 
-pub say-list-spec : {M : Type 1} → statement M
-say-list-spec =
+pub say-words-spec : {M : Type 1} → statement M
+say-words-spec =
     tie.close
     (tie.spec
     Inv-loop
     μ-loop
-    slice-aggregate-write-all
-    write-all-requires
     loop-holds
+    mul-item
     shared-slice-read-item
     cast-item
     item-requires

@@ -1,0 +1,4 @@
+pub mod Fives
+pub mod WideBytes
+pub mod WideRows
+pub mod OneKey

@@ -1,0 +1,116 @@
+-- What the same board in version 2 says: the same ends, carriers and headings, and so the same track and position.
+-- A byte of one of its zones is the k-th of that zone's five.
+use Prim.Native.Nat.{ℕ, zero, suc, _+_, _-_, _*_, _/_, _%_, _<_}
+use native.Mathlib.Omega.{arith}
+use native.Mathlib.Nat.{add-zero}
+use mathlib.Core.List.{List, [], _∷_, map, flatten}
+use mathlib.Core.Path.{_≡_, refl, sym, _∙_, ap, ap₂}
+use mathlib.Core.Bool.{Bool, true, false}
+use lib.ListN.{length, getD}
+use lib.Seq.{getD-append-add}
+use lib.Dec.{eqb}
+use borrow.Author.Tests.{eqb-true, eqb-false}
+use Rattle.model.specs.Lists.{numbersBelow}
+use Rattle.model.specs.Reading.{byte, twoBytes, stride, zoneFrom, pointsSaid, homeSaid, zonesSaid, endA, endB, carrierIn, headingIn, endSaid, trackSaid, positionSaid}
+use Rattle.model.proofs.ListLaws.{length-below, getD-below, mem-below}
+use Rattle.model.proofs.PlaceLaws.{map-ext}
+use Rattle.model.proofs.WordLaws.{zone-below}
+use Rattle.model.proofs.ReadingLaws.{carrier-small}
+use Rattle.versions.specs.Versions.{wideZone, wideLength, inVersion2, SaySame}
+use Rattle.versions.proofs.Fives.{length-fives, getD-fives, small-fives}
+
+-- the point where a word starts is one of its zone's ends, on any board
+module _ (d : List ℕ) (v : ℕ) where
+  first-end : v % 2 ≡ 0 → endSaid d v ≡ endA d (v / 2)
+  first-end e = ap (λ (k : ℕ). byte d (zoneFrom d (v / 2) + k)) e ∙ ap (byte d) (add-zero (zoneFrom d (v / 2)))
+
+  second-end : v % 2 ≡ 1 → endSaid d v ≡ endB d (v / 2)
+  second-end e = ap (λ (k : ℕ). byte d (zoneFrom d (v / 2) + k)) e
+
+module _ (b : List ℕ) where
+  pub length-wide : length (inVersion2 b) ≡ 6 + 5 * zonesSaid b
+  unfolding inVersion2
+  length-wide = omega (arith, length-fives (wideZone b) (λ z. refl) (numbersBelow (zonesSaid b)), length-below (zonesSaid b))
+
+  pub wide-stride : stride (inVersion2 b) ≡ 5
+  unfolding stride inVersion2
+  wide-stride = refl
+
+  from : (z : ℕ) → zoneFrom (inVersion2 b) z ≡ 5 * z + 6
+  from z = ap (λ (s : ℕ). s * z + 6) wide-stride
+
+  -- the k-th byte of zone z
+  module _ (z : ℕ) (l : z < zonesSaid b) where
+    at-zone : (k i : ℕ) → k < 5 → i ≡ k → byte (inVersion2 b) (zoneFrom (inVersion2 b) z + i) ≡ getD (wideZone b z) k 0
+    unfolding inVersion2
+    at-zone k i small e =
+        ap₂ (λ (m n : ℕ). byte (inVersion2 b) (m + n)) (from z) e ∙
+        ap (byte (inVersion2 b)) (let q : 5 * z + 6 + k ≡ 6 + (5 * z + k) = omega arith in q) ∙
+        getD-append-add
+        (wideLength b / 256 ∷ wideLength b % 256 ∷ 2 ∷ pointsSaid b ∷ homeSaid b ∷ zonesSaid b ∷ [])
+        (flatten (map (wideZone b) (numbersBelow (zonesSaid b)))) (5 * z + k) 0 ∙
+        getD-fives (wideZone b) (λ z. refl) (numbersBelow (zonesSaid b)) z k (omega (arith, length-below (zonesSaid b))) small ∙
+        ap (λ (y : ℕ). getD (wideZone b y) k 0) (getD-below (zonesSaid b) z 0 l)
+
+    pub wide-a : endA (inVersion2 b) z ≡ endA b z
+    wide-a = ap (byte (inVersion2 b)) (sym (add-zero (zoneFrom (inVersion2 b) z))) ∙ at-zone 0 0 (omega arith) refl
+
+    pub wide-b : endB (inVersion2 b) z ≡ endB b z
+    wide-b = at-zone 1 1 (omega arith) refl
+
+    pub wide-heading : headingIn (inVersion2 b) z ≡ headingIn b z
+    wide-heading = at-zone 4 (stride (inVersion2 b) - 1) (omega arith) (ap (λ (s : ℕ). s - 1) wide-stride)
+
+    two-bytes : carrierIn (inVersion2 b) z ≡ twoBytes (inVersion2 b) (zoneFrom (inVersion2 b) z + 2)
+    unfolding carrierIn inVersion2
+    two-bytes = refl
+
+    pub wide-carrier : carrierIn (inVersion2 b) z ≡ carrierIn b z
+    wide-carrier =
+        two-bytes ∙
+        ap₂ (λ (x y : ℕ). 256 * x + y)
+        (at-zone 2 2 (omega arith) refl)
+        (ap (byte (inVersion2 b)) (let q : zoneFrom (inVersion2 b) z + 2 + 1 ≡ zoneFrom (inVersion2 b) z + 3 = omega arith in q) ∙ at-zone 3 3 (omega arith) refl) ∙
+        omega arith
+
+  wide-end : (v : ℕ) → v < 2 * zonesSaid b → endSaid (inVersion2 b) v ≡ endSaid b v
+  wide-end v l = go (eqb (v % 2) 0) refl
+    where
+      inside : v / 2 < zonesSaid b
+      inside = zone-below (zonesSaid b) v l
+
+      go : (t : Bool) → eqb (v % 2) 0 ≡ t → endSaid (inVersion2 b) v ≡ endSaid b v
+      go true e = let q = eqb-true (v % 2) 0 e in first-end (inVersion2 b) v q ∙ wide-a (v / 2) inside ∙ sym (first-end b v q)
+      go false e = let n = eqb-false (v % 2) 0 e in let q : v % 2 ≡ 1 = omega arith in second-end (inVersion2 b) v q ∙ wide-b (v / 2) inside ∙ sym (second-end b v q)
+
+  ends-same : map (endSaid (inVersion2 b)) (numbersBelow (2 * zonesSaid b)) ≡ map (endSaid b) (numbersBelow (2 * zonesSaid b))
+  ends-same = map-ext (endSaid (inVersion2 b)) (endSaid b) (numbersBelow (2 * zonesSaid b)) (λ v m. wide-end v (mem-below (2 * zonesSaid b) m))
+
+  pub say-same : SaySame (inVersion2 b) b
+  unfolding trackSaid positionSaid inVersion2
+  say-same = record {
+    track = λ i. record { points = pointsSaid b; home = homeSaid b; zones = zonesSaid b; ends = ends-same i };
+    position =
+        map-ext (λ z. 2 * carrierIn (inVersion2 b) z + headingIn (inVersion2 b) z) (λ z. 2 * carrierIn b z + headingIn b z) (numbersBelow (zonesSaid b))
+        (λ z m. let l = mem-below (zonesSaid b) m in ap₂ (λ (c h : ℕ). 2 * c + h) (wide-carrier z l) (wide-heading z l));
+  }
+
+  -- it is made of bytes where the board is
+  module _ (bytes : (i : ℕ) → byte b i < 256) where
+    zone-bytes : (z k : ℕ) → getD (wideZone b z) k 0 < 256
+    zone-bytes z zero = bytes (zoneFrom b z)
+    zone-bytes z (suc zero) = bytes (zoneFrom b z + 1)
+    zone-bytes z (suc (suc zero)) = omega (arith, carrier-small b bytes z)
+    zone-bytes z (suc (suc (suc zero))) = omega arith
+    zone-bytes z (suc (suc (suc (suc zero)))) = bytes (zoneFrom b z + (stride b - 1))
+    zone-bytes z (suc (suc (suc (suc (suc k))))) = omega arith
+
+    pub wide-bytes : (i : ℕ) → byte (inVersion2 b) i < 256
+    unfolding inVersion2
+    wide-bytes zero = omega (arith, bytes 5)
+    wide-bytes (suc zero) = omega arith
+    wide-bytes (suc (suc zero)) = omega arith
+    wide-bytes (suc (suc (suc zero))) = bytes 3
+    wide-bytes (suc (suc (suc (suc zero)))) = bytes 4
+    wide-bytes (suc (suc (suc (suc (suc zero))))) = bytes 5
+    wide-bytes (suc (suc (suc (suc (suc (suc i)))))) = small-fives (wideZone b) (λ z. refl) 256 (omega arith) zone-bytes (numbersBelow (zonesSaid b)) i

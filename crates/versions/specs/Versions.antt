@@ -1,0 +1,54 @@
+-- A board in both versions gets one key (request i of document 02): the same board in version 2 is accepted and says the same, and boards that
+-- say the same get the same answers. Nothing past what a board says depends on its version.
+use Prim.Native.Nat.{ℕ, _+_, _*_, _/_, _%_, _<_}
+use mathlib.Core.List.{List, [], _∷_, map, flatten}
+use mathlib.Core.Path.{_≡_}
+use Rattle.model.specs.Lists.{numbersBelow}
+use Rattle.model.specs.Reading.{byte, versionSaid, pointsSaid, homeSaid, zonesSaid, endA, endB, carrierIn, headingIn, trackSaid, positionSaid, refusal}
+use Rattle.rules.specs.Key.{keyOf}
+use Rattle.rules.specs.Collapse.{collapseOf}
+use Rattle.rules.specs.Sheet.{markOf}
+
+module _ (b : List ℕ) where
+  -- the five bytes of a zone in version 2: its ends, its carrier in two bytes, big-endian, and the heading
+  abbrev pub wideZone : ℕ → List ℕ
+  wideZone z = endA b z ∷ endB b z ∷ carrierIn b z / 256 ∷ carrierIn b z % 256 ∷ headingIn b z ∷ []
+
+  -- L in version 2
+  abbrev pub wideLength : ℕ
+  wideLength = 4 + 5 * zonesSaid b
+
+  -- the same board in version 2
+  unfoldable pub inVersion2 : List ℕ
+  inVersion2 =
+      wideLength / 256 ∷ wideLength % 256 ∷ 2 ∷ pointsSaid b ∷ homeSaid b ∷ zonesSaid b ∷
+      flatten (map wideZone (numbersBelow (zonesSaid b)))
+
+-- two boards say the same track and the same position
+pub record SaySame (b d : List ℕ) : Type 0 where
+  pub track : trackSaid b ≡ trackSaid d
+  pub position : positionSaid b ≡ positionSaid d
+
+-- d is of version 2, accepted, and says what b says; it is made of bytes if b is
+pub record SameInVersion2 (b d : List ℕ) : Type 0 where
+  pub version : versionSaid d ≡ 2
+  pub accepted : refusal d ≡ 0
+  pub same : SaySame d b
+  pub bytes : ((i : ℕ) → byte b i < 256) → (i : ℕ) → byte d i < 256
+
+-- key, collapse and mark answer both boards alike, for every room and every sheet
+pub record SameAnswers (b d : List ℕ) : Type 0 where
+  pub key : (planRoom listRoom : ℕ) → keyOf b planRoom listRoom ≡ keyOf d planRoom listRoom
+  pub collapse : (listRoom : ℕ) → collapseOf b listRoom ≡ collapseOf d listRoom
+  pub mark : (sheet : List ℕ) → markOf b sheet ≡ markOf d sheet
+
+-- of every accepted board, and so of every one of version 1
+abbrev pub InBothVersions : Type 0
+InBothVersions = (b : List ℕ) → refusal b ≡ 0 → SameInVersion2 b (inVersion2 b)
+
+abbrev pub AnswersBySaid : Type 0
+AnswersBySaid = (b d : List ℕ) → refusal b ≡ 0 → refusal d ≡ 0 → SaySame b d → SameAnswers b d
+
+-- together: a board in both versions gets one key
+abbrev pub OneKey : Type 0
+OneKey = (b : List ℕ) → refusal b ≡ 0 → SameAnswers b (inVersion2 b)

@@ -10,18 +10,21 @@
 static volatile unsigned char stack[1 << 20];
 static ucontext_t here, there;
 static uint16_t plan[NIZKABEL_PLAN_ROOM];
-static uint8_t list[NIZKABEL_LIST_ROOM];
+static uint16_t list[NIZKABEL_LIST_ROOM];
 static uint32_t out[2];
 
-/* K, whose carrier goes home, with its plan as a sheet; the far loop, with the sheet that says who is blocked there. */
+/* K, whose carrier goes home, with its plan as a sheet; the far loop, with the sheet that says who is blocked there; T in version 2 with 7 and
+ * 263, whose low bytes are equal. */
 static const uint8_t k[] = {0, 12, 1, 2, 0, 2, 0, 1, 7, 0, 0, 1, 0, 0};
 static const uint16_t plan_of_k[] = {0, 7, 2, 0, 3};
 static const uint8_t far_loop[] = {0, 20, 1, 4, 0, 4, 0, 1, 5, 0, 1, 2, 6, 0, 2, 3, 0, 0, 2, 3, 0, 0};
 static const uint16_t claim[] = {1, 5, 6};
+static const uint8_t wide[] = {0, 14, 2, 2, 0, 2, 0, 1, 0, 7, 0, 0, 1, 1, 7, 0};
 static uint32_t number;
 
 static void key(void) { number = nizkabel_key(k, sizeof k, plan, NIZKABEL_PLAN_ROOM, list, NIZKABEL_LIST_ROOM, out); }
 static void key_blocked(void) { number = nizkabel_key(far_loop, sizeof far_loop, plan, NIZKABEL_PLAN_ROOM, list, NIZKABEL_LIST_ROOM, out); }
+static void key_wide(void) { number = nizkabel_key(wide, sizeof wide, plan, NIZKABEL_PLAN_ROOM, list, NIZKABEL_LIST_ROOM, out); }
 static void collapse(void) { number = nizkabel_collapse(far_loop, sizeof far_loop, list, NIZKABEL_LIST_ROOM, out); }
 static void mark(void) { number = nizkabel_mark(k, sizeof k, plan_of_k, 5); }
 static void mark_claim(void) { number = nizkabel_mark(far_loop, sizeof far_loop, claim, 3); }
@@ -55,6 +58,7 @@ static int fits(const char *name, void (*call)(void), uint32_t expected, size_t 
 int main(void) {
     int good = fits("key", key, NIZKABEL_ORDERED, NIZKABEL_STACK);
     good &= fits("key, blocked", key_blocked, NIZKABEL_BLOCKED, NIZKABEL_STACK);
+    good &= fits("key, version 2", key_wide, NIZKABEL_BLOCKED, NIZKABEL_STACK);
     good &= fits("collapse", collapse, NIZKABEL_COLLAPSED, NIZKABEL_STACK / 2);
     good &= fits("mark of a plan", mark, NIZKABEL_RIGHT, NIZKABEL_STACK / 2);
     good &= fits("mark of a claim", mark_claim, NIZKABEL_RIGHT, NIZKABEL_STACK / 2);

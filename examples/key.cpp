@@ -1,13 +1,14 @@
-// Draws the key of the board `turn` with room that is enough for every board, and prints each carrier's route.
-// Prints: home 5: 0+ 1+ 2- 0-, 0 blocked
+// Draws the key of the board `turn` in version 2, its carrier numbered 300, with room that is enough for every board, and prints each
+// carrier's route. Prints: home 300: 0+ 1+ 2- 0-, 0 blocked
 #include "nizkabel.h"
 #include <cstdio>
 #include <vector>
 
 int main() {
-    const std::vector<uint8_t> board = {0, 16, 1, 3, 0, 3, 0, 1, 5, 0, 1, 2, 0, 0, 1, 2, 0, 0};
+    // A zone has five bytes: its two ends, the carrier's number, high byte first, and the heading.
+    const std::vector<uint8_t> board = {0, 19, 2, 3, 0, 3, 0, 1, 0x01, 0x2C, 0, 1, 2, 0, 0, 0, 1, 2, 0, 0, 0};
     std::vector<uint16_t> plan(NIZKABEL_PLAN_ROOM);
-    std::vector<uint8_t> list(NIZKABEL_LIST_ROOM);
+    std::vector<uint16_t> list(NIZKABEL_LIST_ROOM);
     uint32_t out[2];
     const uint32_t verdict = nizkabel_key(board.data(), board.size(), plan.data(), plan.size(), list.data(), list.size(), out);
     if (verdict != NIZKABEL_ORDERED && verdict != NIZKABEL_BLOCKED) {

@@ -4,8 +4,9 @@
  * whatever the bytes; it allocates nothing, and calls from several threads don't meet. Lengths count elements. A pointer with length 0 may
  * point anywhere that is not null. What a call writes (plan, list, out) must not overlap anything else that it is lent.
  *
+ * Board: in version 1, four bytes a zone with one for the carrier, or in version 2, five with two for it, high byte first.
  * Plan: for each carrier in turn its number, the count of words of its route, the words; a word is 2 x zone + heading. Sheet: 0 and a plan,
- * or 1 and the blocked carriers ascending.
+ * or 1 and the blocked carriers ascending. List: carriers' numbers ascending, a word each.
  */
 #ifndef NIZKABEL_H
 #define NIZKABEL_H
@@ -17,7 +18,7 @@
 extern "C" {
 #endif
 
-/* Rooms that are enough for every board: 96 carriers with 2 + 2 x 96 words each, and 96 numbers. */
+/* Rooms that are enough for every board: 96 carriers with 2 + 2 x 96 words each, and a word for each of them. */
 #define NIZKABEL_PLAN_ROOM 18624
 #define NIZKABEL_LIST_ROOM 96
 
@@ -32,15 +33,15 @@ enum nizkabel_number {
     NIZKABEL_RIGHT = 0,           /* mark: the sheet is right */
     NIZKABEL_TOO_SHORT = 1,       /* under 6 bytes */
     NIZKABEL_WRONG_LENGTH = 2,    /* L isn't the count of bytes after it */
-    NIZKABEL_WRONG_VERSION = 3,   /* version isn't 1 */
+    NIZKABEL_WRONG_VERSION = 3,   /* version is neither 1 nor 2 */
     NIZKABEL_OUT_OF_RANGE = 4,    /* P, home or Z out of range */
-    NIZKABEL_WRONG_COUNT = 5,     /* L isn't 4 + 4 x Z */
+    NIZKABEL_WRONG_COUNT = 5,     /* L isn't 4 + 4 x Z in version 1, 4 + 5 x Z in version 2 */
     NIZKABEL_BAD_ZONE = 6,        /* an end not below P, heading over 1, or a free zone with heading 1 */
     NIZKABEL_CARRIER_TWICE = 7,   /* a carrier in two zones */
     NIZKABEL_LOOSE_POINT = 8,     /* a point other than home with under two zones, a turning loop counted twice */
     NIZKABEL_APART = 9,           /* points that don't hang together */
     NIZKABEL_SHORT_PLAN = 10,     /* plan lent for under C x (2 + 2 x Z) words */
-    NIZKABEL_SHORT_LIST = 11,     /* list lent for under C numbers */
+    NIZKABEL_SHORT_LIST = 11,     /* list lent for under C words */
     NIZKABEL_BLOCKED = 20,        /* key: some carrier is blocked, and then two or more are */
     NIZKABEL_BAD_SHEET = 30,      /* empty, starts with neither 0 nor 1, or an entry with under two words, a count of 0 or past the end */
     NIZKABEL_NOT_OUT = 31,        /* the carrier isn't still out */
@@ -53,11 +54,11 @@ enum nizkabel_number {
 /* Draws the key of a board. Gives 0 or 20, or 1 to 11 where it is turned back. The plan's words and the blocked carriers' numbers are
  * written from the start of plan and list; past them, and on 1 to 11, both stay as they were. out[0] is the count of words in the plan,
  * out[1] the count of numbers in the list; both are 0 on 1 to 11. */
-uint32_t nizkabel_key(const uint8_t *board, size_t board_len, uint16_t *plan, size_t plan_len, uint8_t *list, size_t list_len, uint32_t out[2]);
+uint32_t nizkabel_key(const uint8_t *board, size_t board_len, uint16_t *plan, size_t plan_len, uint16_t *list, size_t list_len, uint32_t out[2]);
 
 /* Collapses a board. Gives 0, or 1 to 9 or 11. out[0] is the count of carriers left, whose numbers are written to the list ascending; on
  * 1 to 9 and 11 it is 0, and the list stays as it was. */
-uint32_t nizkabel_collapse(const uint8_t *board, size_t board_len, uint8_t *list, size_t list_len, uint32_t out[1]);
+uint32_t nizkabel_collapse(const uint8_t *board, size_t board_len, uint16_t *list, size_t list_len, uint32_t out[1]);
 
 /* Marks a sheet: 0 where it is right, 30 to 35 where it is not, 1 to 9 for a bad board. Nothing is written. */
 uint32_t nizkabel_mark(const uint8_t *board, size_t board_len, const uint16_t *sheet, size_t sheet_len);

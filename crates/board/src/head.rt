@@ -62,5 +62,6 @@ pub fn wrong_count(bytes: &[u8]) -> bool
     ensures { λ r. ⌜ r ≡ wrongCount (now (bytes .entry)) ⌝ }
 {
     let said = 256 * byte(bytes, 0) + byte(bytes, 1);
-    said != 4 + stride(bytes) * byte(bytes, 5)
+    let each = stride(bytes);
+    said != 4 + each * byte(bytes, 5)
 }

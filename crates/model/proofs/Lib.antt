@@ -10,3 +10,4 @@ pub mod MoveLaws
 pub mod LinkLaws
 pub mod LabelLaws
 pub mod ReadingLaws
+pub mod ReadingRows

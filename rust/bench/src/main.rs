@@ -1,6 +1,9 @@
 //! Times the proved library against a Rust port of the same algorithm, a search that scans all words at each step, and the second
-//! implementation, all in one run. Prints nanoseconds a call and ratios; below 1 the proved library is faster.
+//! implementation, all in one run, and where one is linked against an older build of it. Prints nanoseconds a call and ratios; below 1 the
+//! proved library is faster.
 
+#[cfg(before)]
+mod before;
 mod port;
 
 use compare::{boards::{self, Loops}, random::Random};
@@ -43,9 +46,18 @@ fn worst() -> Board {
     Board { points: exit + around, home: 0, zones }
 }
 
+/// The boards with every carrier renumbered to over 255, for which version 2 alone has room. The numbers' order stays, and so do the routes.
+fn renumbered(boards: &[Board], number: impl Fn(u32) -> u32) -> Vec<Board> {
+    let mut boards = boards.to_vec();
+    for zone in boards.iter_mut().flat_map(|b| &mut b.zones).filter(|z| z.carrier != 0) {
+        zone.carrier = number(zone.carrier);
+    }
+    boards
+}
+
 /// The library and the port give the same, before either is timed; the sheet is right.
 fn agree(board: &[u8], sheet: &[u16]) {
-    let (mut plan, mut list) = (vec![0u16; 96 * 194], vec![0u8; 96]);
+    let (mut plan, mut list) = (vec![0u16; 96 * 194], vec![0u16; 96]);
     let (mut port_plan, mut port_list) = (plan.clone(), list.clone());
     let key = nizkabel::key(board, &mut plan, &mut list);
     assert_eq!((key.verdict, key.planned, key.listed), port::key(board, &mut port_plan, &mut port_list, false));
@@ -56,10 +68,10 @@ fn agree(board: &[u8], sheet: &[u16]) {
     assert_eq!((nizkabel::mark(board, sheet), port::mark(board, sheet)), (0, 0));
 }
 
-fn group(name: &str, boards: Vec<Board>, rounds: usize) {
+fn group(name: &str, boards: &[Board], rounds: usize) {
     let bytes: Vec<Vec<u8>> = boards.iter().map(|b| b.bytes()).collect();
     let mut plan = vec![0u16; 96 * 194];
-    let mut list = vec![0u8; 96];
+    let mut list = vec![0u16; 96];
     let sheets: Vec<Vec<u16>> = bytes
         .iter()
         .map(|b| {
@@ -93,6 +105,10 @@ fn group(name: &str, boards: Vec<Board>, rounds: usize) {
     ]);
     let [mark_second] = times(2, n, [&mut || pairs.iter().for_each(|(b, s)| { black_box(second::mark(black_box(b), s)); })]);
     row(name, "mark", &mark, &[("port", &mark_port), ("second", &mark_second)]);
+    #[cfg(before)]
+    if bytes.iter().all(|b| b[2] == 1) {
+        before::group(name, &pairs, rounds);
+    }
 }
 
 /// One line: the median time, and the median over the rounds of its ratio to each other program's time in the same round. The second
@@ -109,9 +125,19 @@ fn main() {
         assert_eq!((nizkabel::mark(&board, sheet), port::mark(&board, sheet)), (number, number));
     }
     println!("ratios of the proved library's time to each other one's");
-    group("small", (0..2000).map(|_| boards::accepted(&mut random, 4, 6, 3, Loops::None)).collect(), 100);
-    group("large", (0..60).map(|_| boards::accepted(&mut random, 40, 90, 4, Loops::None)).filter(|b| b.zones.len() <= 96).collect(), 100);
-    group("full", (0..60).map(|_| boards::accepted(&mut random, 40, 90, 1, Loops::None)).filter(|b| b.zones.len() <= 96).collect(), 100);
-    group("worst", (0..20).map(|_| worst()).collect(), 40);
-    group("loops", (0..60).map(|_| boards::accepted(&mut random, 40, 90, 4, Loops::OnceIn(2))).filter(|b| b.zones.len() <= 96).collect(), 100);
+    let small: Vec<Board> = (0..2000).map(|_| boards::accepted(&mut random, 4, 6, 3, Loops::None)).collect();
+    let mut about_90_zones = |sparse, loops| -> Vec<Board> {
+        (0..60).map(|_| boards::accepted(&mut random, 40, 90, sparse, loops)).filter(|b| b.zones.len() <= 96).collect()
+    };
+    let (large, full) = (about_90_zones(4, Loops::None), about_90_zones(1, Loops::None));
+    group("small", &small, 100);
+    group("large", &large, 100);
+    group("full", &full, 100);
+    group("worst", &vec![worst(); 20], 40);
+    group("loops", &about_90_zones(4, Loops::OnceIn(2)), 100);
+    // In version 2; on the last boards all carriers have one low byte.
+    group("small 2", &renumbered(&small, |c| c + 256), 100);
+    group("large 2", &renumbered(&large, |c| c + 256), 100);
+    group("full 2", &renumbered(&full, |c| c + 256), 100);
+    group("alike 2", &renumbered(&full, |c| c * 256), 100);
 }

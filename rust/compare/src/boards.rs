@@ -1,7 +1,8 @@
-//! Random boards: accepted ones of every density, and damaged ones.
+//! Random boards: accepted ones of every density, with carriers' numbers of every kind, and damaged ones.
 
 use crate::random::Random;
 use second::{Board, Zone};
+use std::collections::HashSet;
 
 /// How often a zone that isn't needed to join the points is a turning loop.
 #[derive(Clone, Copy)]
@@ -60,6 +61,52 @@ pub fn accepted(random: &mut Random, points: usize, zones: usize, sparse: usize,
     Board { points, home, zones }
 }
 
+/// How the carriers are numbered.
+#[derive(Clone, Copy)]
+pub enum Numbers {
+    /// Up to 255, so that either version has room for them.
+    Narrow,
+    /// Up to 65535.
+    Wide,
+    /// Up to 65535 with two low bytes only: many differ in the high byte alone.
+    Alike,
+}
+
+impl Numbers {
+    /// A number of this kind, or 0.
+    fn next(self, random: &mut Random, lows: [usize; 2]) -> usize {
+        match self {
+            Numbers::Narrow => random.below(256),
+            Numbers::Wide if random.once_in(4) => [255, 256, 65_535][random.below(3)],
+            Numbers::Wide => random.below(65_536),
+            Numbers::Alike => {
+                let highs = [2, 256][random.below(2)];
+                256 * random.below(highs) + lows[random.below(2)]
+            }
+        }
+    }
+}
+
+/// The board with its carriers numbered anew.
+pub fn renumbered(random: &mut Random, mut board: Board, numbers: Numbers) -> Board {
+    let lows = [random.below(256), random.below(256)];
+    let mut taken = HashSet::from([0]);
+    for zone in board.zones.iter_mut().filter(|z| z.carrier != 0) {
+        let mut number = 0;
+        while !taken.insert(number) {
+            number = numbers.next(random, lows) as u32;
+        }
+        zone.carrier = number;
+    }
+    board
+}
+
+/// The bytes of a board in a version that has room for its numbers.
+pub fn written(random: &mut Random, board: &Board) -> Vec<u8> {
+    let mut versions = board.in_each_version();
+    versions.swap_remove(random.below(versions.len()))
+}
+
 /// Every board of so many points and up to three zones, with every home, pair of ends, heading and choice of held zones, accepted or not.
 /// The carriers' order isn't that of their zones.
 pub fn every(points: usize, zones: usize) -> impl Iterator<Item = Board> {
@@ -85,11 +132,12 @@ pub fn shuffle<T>(random: &mut Random, items: &mut [T]) {
     }
 }
 
-/// The bytes of a board with a few of them changed, cut off or added.
-pub fn damaged(random: &mut Random, board: &Board) -> Vec<u8> {
-    let mut bytes = board.bytes();
+/// The bytes of a board, in either version, with a few of them changed, cut off or added.
+pub fn damaged(random: &mut Random, mut bytes: Vec<u8>) -> Vec<u8> {
     for _ in 0..1 + random.below(3) {
-        match random.below(7) {
+        let size = if bytes.get(2) == Some(&2) { 5 } else { 4 };
+        let zones = bytes.len().saturating_sub(6) / size;
+        match random.below(9) {
             0 => {
                 bytes.truncate(random.below(bytes.len() + 1));
             }
@@ -97,22 +145,36 @@ pub fn damaged(random: &mut Random, board: &Board) -> Vec<u8> {
                 let more = random.below(9);
                 bytes.extend((0..more).map(|_| random.next() as u8));
             }
-            2 if bytes.len() >= 14 => {
+            2 if zones >= 2 => {
                 // A zone more or fewer, with the lengths put right: later rows are met.
-                bytes.truncate(6 + (bytes.len() - 6) / 4 * 4 - 4 * random.below(2));
-                set_lengths(&mut bytes);
+                let kept = zones - random.below(2);
+                bytes.truncate(6 + size * kept);
+                bytes[5] = kept as u8;
+                set_length(&mut bytes);
             }
-            3 if bytes.len() >= 14 => {
+            3 if zones >= 2 => {
                 // A zone's ends made equal: a point may lose its second zone, or hang together with the others no more.
-                let end = 6 + 4 * random.below((bytes.len() - 6) / 4);
+                let end = 6 + size * random.below(zones);
                 bytes[end + 1] = bytes[end];
             }
-            4 if bytes.len() >= 14 => {
-                // A carrier in two zones.
-                let zones = (bytes.len() - 6) / 4;
-                let from = 6 + 4 * random.below(zones);
-                let to = 6 + 4 * random.below(zones);
-                bytes[to + 2] = bytes[from + 2];
+            4 if zones >= 2 => {
+                // A carrier in two zones, or its low byte alone.
+                let from = 6 + size * random.below(zones);
+                let to = 6 + size * random.below(zones);
+                let first = if random.once_in(2) { 2 } else { size - 2 };
+                bytes.copy_within(from + first..from + size - 1, to + first);
+            }
+            5 if zones >= 2 => {
+                // The other version is said: L fits the one that was.
+                bytes[2] = if size == 4 { 2 } else { 1 };
+            }
+            6 if zones >= 2 => {
+                // A byte more or fewer in each zone: L fits the other version.
+                let high: &[u8] = if size == 4 { &[0] } else { &[] };
+                for zone in bytes.split_off(6).chunks_exact(size) {
+                    bytes.extend([&zone[..2], high, &zone[size - 2..]].concat());
+                }
+                set_length(&mut bytes);
             }
             _ if !bytes.is_empty() => {
                 let end = if random.once_in(2) { bytes.len().min(6) } else { bytes.len() };
@@ -125,9 +187,7 @@ pub fn damaged(random: &mut Random, board: &Board) -> Vec<u8> {
     bytes
 }
 
-fn set_lengths(bytes: &mut [u8]) {
-    let said = bytes.len() - 2;
-    bytes[0] = (said / 256) as u8;
-    bytes[1] = (said % 256) as u8;
-    bytes[5] = ((bytes.len() - 6) / 4) as u8;
+fn set_length(bytes: &mut [u8]) {
+    let said = bytes.len() as u16 - 2;
+    bytes[..2].copy_from_slice(&said.to_be_bytes());
 }

@@ -4,18 +4,20 @@
 mod blocked;
 mod gate;
 mod loops;
+mod versions;
 
 use blocked::BlockedTally;
-use compare::boards::{self, Loops};
+use compare::boards::{self, Loops, Numbers};
 use compare::random::Random;
 use compare::sheets;
 use gate::GateTally;
 use loops::LoopTally;
 use second::{Board, Rule};
+use versions::{answers, Answers, VersionTally};
 
 const SEED: u64 = 20_261_115;
-const CANARY_WORD: u16 = 0xA5C3;
-const CANARY_BYTE: u8 = 0xB7;
+const PLAN_CANARY: u16 = 0xA5C3;
+const LIST_CANARY: u16 = 0xB7D9;
 
 #[derive(Default)]
 struct Tally {
@@ -28,6 +30,7 @@ struct Tally {
     loops: LoopTally,
     gate: GateTally,
     blocked: BlockedTally,
+    versions: VersionTally,
     verdicts: std::collections::BTreeMap<u32, usize>,
     marks: std::collections::BTreeMap<u32, usize>,
 }
@@ -39,6 +42,13 @@ fn differ(what: &str, board: &[u8], detail: String) -> ! {
     std::process::exit(1);
 }
 
+/// What a slice lent full of canaries holds once these words are written to its start.
+fn whole(words: impl IntoIterator<Item = u16>, room: usize, canary: u16) -> Vec<u16> {
+    let mut whole: Vec<u16> = words.into_iter().collect();
+    whole.resize(room.max(whole.len()), canary);
+    whole
+}
+
 /// The key and the collapse with this room lent. The home gate changes no key.
 fn compare_key(tally: &mut Tally, bytes: &[u8], plan_room: usize, list_room: usize) {
     let expected = second::key(bytes, plan_room, list_room);
@@ -46,13 +56,11 @@ fn compare_key(tally: &mut Tally, bytes: &[u8], plan_room: usize, list_room: usi
     if older != expected {
         differ("key by the older rule", bytes, format!("older {older:?}\nnow {expected:?}"));
     }
-    let mut plan = vec![CANARY_WORD; plan_room];
-    let mut list = vec![CANARY_BYTE; list_room];
+    let mut plan = vec![PLAN_CANARY; plan_room];
+    let mut list = vec![LIST_CANARY; list_room];
     let got = nizkabel::key(bytes, &mut plan, &mut list);
-    let mut whole_plan = expected.plan.clone();
-    whole_plan.resize(plan_room.max(whole_plan.len()), CANARY_WORD);
-    let mut whole_list: Vec<u8> = expected.list.iter().map(|&c| c as u8).collect();
-    whole_list.resize(list_room.max(whole_list.len()), CANARY_BYTE);
+    let whole_plan = whole(expected.plan.iter().copied(), plan_room, PLAN_CANARY);
+    let whole_list = whole(expected.list.iter().map(|&c| c as u16), list_room, LIST_CANARY);
     let same = got.verdict == expected.verdict && got.planned == expected.plan.len() && got.listed == expected.list.len();
     if !same || plan != whole_plan || list != whole_list {
         differ("key", bytes, format!("expected {expected:?}\ngot {got:?}\nplan {plan:?}\nlist {list:?}"));
@@ -60,10 +68,9 @@ fn compare_key(tally: &mut Tally, bytes: &[u8], plan_room: usize, list_room: usi
     *tally.verdicts.entry(got.verdict).or_default() += 1;
 
     let (number, left) = second::collapse(bytes, list_room);
-    let mut list = vec![CANARY_BYTE; list_room];
+    let mut list = vec![LIST_CANARY; list_room];
     let got = nizkabel::collapse(bytes, &mut list);
-    let mut whole_list: Vec<u8> = left.iter().map(|&c| c as u8).collect();
-    whole_list.resize(list_room.max(whole_list.len()), CANARY_BYTE);
+    let whole_list = whole(left.iter().map(|&c| c as u16), list_room, LIST_CANARY);
     if got.number != number || got.listed != left.len() || list != whole_list {
         differ("collapse", bytes, format!("expected {number} {left:?}\ngot {got:?}\nlist {list:?}"));
     }
@@ -82,12 +89,22 @@ fn compare_mark(tally: &mut Tally, bytes: &[u8], sheet: &[u16]) {
 }
 
 /// A sheet that is right by the older rule as far as it goes gets 32 exactly if it runs on through home.
-fn compare_run_on(tally: &mut Tally, board: &Board, sheet: &[u16]) {
-    let bytes = board.bytes();
-    compare_mark(tally, &bytes, sheet);
-    let got = nizkabel::mark(&bytes, sheet);
+fn compare_run_on(tally: &mut Tally, board: &Board, bytes: &[u8], sheet: &[u16]) {
+    compare_mark(tally, bytes, sheet);
+    let got = nizkabel::mark(bytes, sheet);
     if (got == 32) != sheets::runs_on(board, sheet) || ![0, 32, 34].contains(&got) {
-        differ("a sheet that was right", &bytes, format!("sheet {sheet:?}\ngot {got}"));
+        differ("a sheet that was right", bytes, format!("sheet {sheet:?}\ngot {got}"));
+    }
+}
+
+/// The library says the same of a board in both versions, where both have room for its numbers.
+fn compare_versions(tally: &mut Tally, board: &Board, plan_room: usize, list_room: usize, sheets: &[Vec<u16>]) {
+    let said: Vec<Answers> = board.in_each_version().iter().map(|bytes| answers(bytes, plan_room, list_room, sheets)).collect();
+    if let [one, two] = &said[..] {
+        if one != two {
+            differ("the two versions", &board.bytes(), format!("sheets {sheets:?}\nversion 1 {one:?}\nversion 2 {two:?}"));
+        }
+        tally.versions.in_both += 1;
     }
 }
 
@@ -103,9 +120,12 @@ fn count_blocked(tally: &mut Tally, board: &Board) -> Vec<u32> {
 /// One board more, in bytes that may be refused.
 fn count_bytes(tally: &mut Tally, bytes: &[u8]) {
     tally.boards += 1;
-    if let Ok(board) = second::read(bytes) {
-        tally.accepted += 1;
-        count_blocked(tally, &board);
+    match second::read(bytes) {
+        Ok(board) => {
+            tally.accepted += 1;
+            count_blocked(tally, &board);
+        }
+        Err(number) => tally.versions.add_refused(bytes, number),
     }
 }
 
@@ -116,7 +136,7 @@ fn compare_alone(tally: &mut Tally, random: &mut Random, board: &Board) {
     for (z, zone) in alone.zones.iter_mut().enumerate() {
         (zone.carrier, zone.heading) = if z == word / 2 { (1, (word % 2) as u32) } else { (0, 0) };
     }
-    let bytes = alone.bytes();
+    let bytes = boards::written(random, &alone);
     compare_key(tally, &bytes, 2 + board.words(), 1);
     let key = second::key(&bytes, 2 + board.words(), 1);
     if key.verdict != 0 {
@@ -127,7 +147,7 @@ fn compare_alone(tally: &mut Tally, random: &mut Random, board: &Board) {
 }
 
 fn compare_board(tally: &mut Tally, random: &mut Random, board: &Board) {
-    let bytes = board.bytes();
+    let bytes = boards::written(random, board);
     let (out, zones) = (board.carriers().len(), board.zones.len());
     let room = out * (2 + 2 * zones);
     tally.boards += 1;
@@ -143,16 +163,18 @@ fn compare_board(tally: &mut Tally, random: &mut Random, board: &Board) {
     compare_alone(tally, random, board);
     let named = count_blocked(tally, board);
     tally.loops.add(board, &named);
+    tally.versions.add(board, &bytes, &named);
     let tried = sheets::by_tries(random, board, Rule::HomeGate);
     let run_on = sheets::by_tries(random, board, Rule::Older);
     let claim = sheets::claim(&named);
-    compare_run_on(tally, board, &run_on);
-    compare_mark(tally, &bytes, &sheets::spoilt(random, &run_on));
-    for sheet in [&tried, &claim] {
+    compare_run_on(tally, board, &bytes, &run_on);
+    let spoilt = [&run_on, &tried, &claim].map(|sheet| sheets::spoilt(random, sheet));
+    let mut marked = [vec![tried.clone(), claim, sheets::noise(random)], spoilt.to_vec()].concat();
+    for sheet in &marked {
         compare_mark(tally, &bytes, sheet);
-        compare_mark(tally, &bytes, &sheets::spoilt(random, sheet));
     }
-    compare_mark(tally, &bytes, &sheets::noise(random));
+    marked.push(run_on);
+    compare_versions(tally, board, room, out, &marked);
     if let Some((zone, sheet)) = sheets::run_again(random, board, &tried) {
         compare_mark(tally, &bytes, &sheet);
         if nizkabel::mark(&bytes, &sheet) != 32 {
@@ -193,12 +215,13 @@ fn compare_small(tally: &mut Tally, board: &Board) {
     let key = second::key(&bytes, 24, 3);
     let sheet = if key.list.is_empty() { [vec![0], key.plan].concat() } else { sheets::claim(&key.list) };
     compare_mark(tally, &bytes, &sheet);
+    compare_versions(tally, board, 24, 3, &[sheet]);
     if accepted {
         count_blocked(tally, board);
         compare_exhaustive(tally, board);
         for carrier in board.carriers() {
             for route in second::routes(Rule::Older, board, carrier) {
-                compare_run_on(tally, board, &sheets::entry(carrier, &route));
+                compare_run_on(tally, board, &bytes, &sheets::entry(carrier, &route));
             }
         }
     } else {
@@ -206,9 +229,12 @@ fn compare_small(tally: &mut Tally, board: &Board) {
     }
 }
 
-/// No turning loop, some, or many.
-fn any_loops(random: &mut Random) -> Loops {
-    [Loops::None, Loops::OnceIn(4), Loops::OnceIn(1)][random.below(3)]
+/// An accepted board with no turning loop, some, or many, and with numbers of any kind, for half of the boards such that both versions have room.
+fn any_board(random: &mut Random, points: usize, zones: usize, sparse: usize) -> Board {
+    let loops = [Loops::None, Loops::OnceIn(4), Loops::OnceIn(1)][random.below(3)];
+    let board = boards::accepted(random, points, zones, sparse, loops);
+    let numbers = [Numbers::Narrow, Numbers::Narrow, Numbers::Wide, Numbers::Alike][random.below(4)];
+    boards::renumbered(random, board, numbers)
 }
 
 fn main() {
@@ -224,8 +250,7 @@ fn main() {
         let points = 2 + random.below(4);
         let zones = 2 + random.below(6);
         let sparse = 1 + random.below(4);
-        let loops = any_loops(&mut random);
-        let board = boards::accepted(&mut random, points, zones, sparse, loops);
+        let board = any_board(&mut random, points, zones, sparse);
         compare_board(&mut tally, &mut random, &board);
         if round % 16 == 0 && board.zones.len() <= 6 {
             compare_exhaustive(&mut tally, &board);
@@ -235,8 +260,7 @@ fn main() {
         let points = 2 + random.below(40);
         let sparse = 1 + random.below(6);
         let zones = (2 * points).min(96).min(2 + random.below(95));
-        let loops = any_loops(&mut random);
-        let board = boards::accepted(&mut random, points, zones, sparse, loops);
+        let board = any_board(&mut random, points, zones, sparse);
         if board.zones.len() <= 96 {
             compare_board(&mut tally, &mut random, &board);
         }
@@ -245,9 +269,9 @@ fn main() {
         let points = 2 + random.below(5);
         let zones = 2 + random.below(6);
         let sparse = 1 + random.below(3);
-        let loops = any_loops(&mut random);
-        let board = boards::accepted(&mut random, points, zones, sparse, loops);
-        let bytes = boards::damaged(&mut random, &board);
+        let board = any_board(&mut random, points, zones, sparse);
+        let bytes = boards::written(&mut random, &board);
+        let bytes = boards::damaged(&mut random, bytes);
         count_bytes(&mut tally, &bytes);
         let (plan_room, list_room) = (random.below(300), random.below(12));
         compare_key(&mut tally, &bytes, plan_room, list_room);
@@ -271,6 +295,10 @@ fn main() {
         println!("too few boards of some kind by their blocked carriers, or too few carriers alone out: {:?}", tally.blocked);
         std::process::exit(1);
     }
+    if !tally.versions.fair() {
+        println!("too few boards of some kind by their version or their carriers' numbers: {:?}", tally.versions);
+        std::process::exit(1);
+    }
     println!(
         "{} boards ({} accepted), {} sheets ({} passed), {} boards by exhaustion, {} of them full: no difference",
         tally.boards, tally.accepted, tally.sheets, tally.passed, tally.exhaustive, tally.full
@@ -278,6 +306,7 @@ fn main() {
     println!("turning loops: {:?}", tally.loops);
     println!("sheets that the home gate turns to 32: {:?}", tally.gate);
     println!("blocked carriers: {:?}", tally.blocked);
+    println!("versions: {:?}", tally.versions);
     println!("verdicts {:?}", tally.verdicts);
     println!("marks {:?}", tally.marks);
 }

@@ -6,7 +6,7 @@
 //! // Board K of document 01: two points, two zones, carrier 7 in zone 0.
 //! let board = [0x00, 0x0C, 1, 2, 0, 2, 0, 1, 7, 0, 0, 1, 0, 0];
 //! let mut plan = [0u16; nizkabel::PLAN_ROOM];
-//! let mut list = [0u8; nizkabel::LIST_ROOM];
+//! let mut list = [0u16; nizkabel::LIST_ROOM];
 //! let key = nizkabel::key(&board, &mut plan, &mut list);
 //! assert_eq!((key.verdict, key.planned, key.listed), (0, 4, 0));
 //! assert_eq!(plan[..key.planned], [7, 2, 0, 3]);
@@ -18,7 +18,7 @@ pub mod owned;
 /// Words of a plan that are room enough for every board: 96 carriers with 2 + 2 × 96 words each.
 pub const PLAN_ROOM: usize = 18_624;
 
-/// Numbers of a list that are room enough for every board.
+/// Words of a list that are room enough for every board: a carrier's number each.
 pub const LIST_ROOM: usize = 96;
 
 /// What the key gives: the verdict (0 ordered, 20 some carrier blocked, 1 to 11 turned back), the count of words written to
@@ -39,13 +39,13 @@ pub struct Collapse {
 
 // Declared as in include/nizkabel.h.
 extern "C" {
-    fn nizkabel_key(board: *const u8, board_len: usize, plan: *mut u16, plan_len: usize, list: *mut u8, list_len: usize, out: *mut u32) -> u32;
-    fn nizkabel_collapse(board: *const u8, board_len: usize, list: *mut u8, list_len: usize, out: *mut u32) -> u32;
+    fn nizkabel_key(board: *const u8, board_len: usize, plan: *mut u16, plan_len: usize, list: *mut u16, list_len: usize, out: *mut u32) -> u32;
+    fn nizkabel_collapse(board: *const u8, board_len: usize, list: *mut u16, list_len: usize, out: *mut u32) -> u32;
     fn nizkabel_mark(board: *const u8, board_len: usize, sheet: *const u16, sheet_len: usize) -> u32;
 }
 
 /// Draws the key. Past what is written, and on 1 to 11, plan and list stay as they were.
-pub fn key(board: &[u8], plan: &mut [u16], list: &mut [u8]) -> Key {
+pub fn key(board: &[u8], plan: &mut [u16], list: &mut [u16]) -> Key {
     let mut out = [0u32; 2];
     // SAFETY: each pointer comes with the length of the slice that it points to, and out has two elements.
     let verdict = unsafe { nizkabel_key(board.as_ptr(), board.len(), plan.as_mut_ptr(), plan.len(), list.as_mut_ptr(), list.len(), out.as_mut_ptr()) };
@@ -53,7 +53,7 @@ pub fn key(board: &[u8], plan: &mut [u16], list: &mut [u8]) -> Key {
 }
 
 /// Collapses the board. Past what is written, and on 1 to 11, the list stays as it was.
-pub fn collapse(board: &[u8], list: &mut [u8]) -> Collapse {
+pub fn collapse(board: &[u8], list: &mut [u16]) -> Collapse {
     let mut out = [0u32; 1];
     // SAFETY: as for key; out has one element.
     let number = unsafe { nizkabel_collapse(board.as_ptr(), board.len(), list.as_mut_ptr(), list.len(), out.as_mut_ptr()) };

@@ -38,7 +38,7 @@ pub struct Entry {
 pub struct Key {
     pub verdict: u32,
     pub entries: Vec<Entry>,
-    pub blocked: Vec<u8>,
+    pub blocked: Vec<u16>,
 }
 
 /// Why a board isn't accepted: a number from 1 to 9.
@@ -60,9 +60,9 @@ impl fmt::Display for Refused {
         let row = match self.0 {
             1 => "under 6 bytes",
             2 => "L isn't the count of bytes after it",
-            3 => "version isn't 1",
+            3 => "version is neither 1 nor 2",
             4 => "P, home or Z out of range",
-            5 => "L isn't 4 + 4 × Z",
+            5 => "L isn't 4 + 4 × Z in version 1, 4 + 5 × Z in version 2",
             6 => "an end not below P, heading over 1, or a free zone with heading 1",
             7 => "a carrier in two zones",
             8 => "a point other than home with under two zones, a turning loop counted twice",
@@ -93,7 +93,7 @@ pub fn key(board: &[u8]) -> Result<Key, Refused> {
 }
 
 /// The carriers that the collapse leaves, ascending.
-pub fn collapse(board: &[u8]) -> Result<Vec<u8>, Refused> {
+pub fn collapse(board: &[u8]) -> Result<Vec<u16>, Refused> {
     let mut left = vec![0; LIST_ROOM];
     let collapse = crate::collapse(board, &mut left);
     Refused::unless_accepted(collapse.number)?;

@@ -2,7 +2,8 @@
 
 use nizkabel::owned::{self, Entry, Refused};
 use second::document_01::{k, refused, starred, SHEETS_FOR_K};
-use second::document_02::{at_gate, loops_refused, one_blocked, to_loop, turning_loops, two_zones, SHEETS_FOR_LOOP};
+use second::document_02::{at_gate, held, loops_refused, one_blocked, to_loop, turning_loops, two_zones, SHEETS_FOR_LOOP};
+use second::document_02::{versions_refused, wide_carriers, wide_sheets, wide_t};
 
 fn plan(entries: &[Entry]) -> Vec<u16> {
     entries.iter().flat_map(|e| [e.carrier, e.words.len() as u16].into_iter().chain(e.words.iter().copied())).collect()
@@ -10,13 +11,14 @@ fn plan(entries: &[Entry]) -> Vec<u16> {
 
 #[test]
 fn boards() {
-    for (board, verdict, words, blocked) in starred().into_iter().chain(turning_loops()).chain(two_zones()) {
-        let key = owned::key(&board).unwrap();
-        let list: Vec<u16> = key.blocked.iter().map(|&c| c.into()).collect();
-        assert_eq!((key.verdict, &plan(&key.entries)[..], &list[..]), (verdict, words, blocked));
-        assert_eq!(owned::collapse(&board).unwrap(), key.blocked);
-        let sheet = if verdict == 0 { [&[0], words].concat() } else { [&[1], blocked].concat() };
-        assert_eq!(owned::mark(&board, &sheet), Ok(0));
+    for (row, verdict, words, blocked) in starred().into_iter().chain(turning_loops()).chain(two_zones()).chain(wide_carriers()) {
+        for board in second::read(&row).unwrap().in_each_version() {
+            let key = owned::key(&board).unwrap();
+            assert_eq!((key.verdict, &plan(&key.entries)[..], &key.blocked[..]), (verdict, words, blocked));
+            assert_eq!(owned::collapse(&board).unwrap(), key.blocked);
+            let sheet = if verdict == 0 { [&[0], words].concat() } else { [&[1], blocked].concat() };
+            assert_eq!(owned::mark(&board, &sheet), Ok(0));
+        }
     }
 }
 
@@ -35,7 +37,7 @@ fn refusals() {
         let error: Box<dyn std::error::Error> = refusal(&board, number).into();
         told.push(error.to_string());
     }
-    for (board, number) in loops_refused().into_iter().chain(one_blocked()) {
+    for (board, number) in loops_refused().into_iter().chain(one_blocked()).chain(versions_refused()) {
         refusal(&board, number);
     }
     assert!(told.iter().enumerate().all(|(i, text)| text.starts_with(&format!("refused {}: ", i + 1))));
@@ -51,6 +53,9 @@ fn marks() {
     }
     for (sheet, number) in SHEETS_FOR_LOOP {
         assert_eq!(owned::mark(&to_loop([1, 1, 0, 0]), sheet), Ok(number));
+    }
+    for (board, sheet, number) in wide_sheets() {
+        assert_eq!(owned::mark(&board, sheet), Ok(number));
     }
     for (board, sheet, _, number) in at_gate() {
         assert_eq!(owned::mark(&board, sheet), Ok(number));
@@ -69,16 +74,28 @@ fn short_rooms() {
     assert_eq!((plan, list), ([7, 2, 0, 3, 9, 9], [9; 1]));
 }
 
+/// Two carriers with a word for one of them, then with words for three.
+#[test]
+fn list_words() {
+    let board = wide_t((7, 0), (263, 0));
+    let (mut plan, mut list) = ([9; 12], [9; 3]);
+    assert_eq!(nizkabel::key(&board, &mut plan, &mut list[..1]), nizkabel::Key { verdict: 11, planned: 0, listed: 0 });
+    assert_eq!(nizkabel::collapse(&board, &mut list[..1]), nizkabel::Collapse { number: 11, listed: 0 });
+    assert_eq!((plan, list), ([9; 12], [9; 3]));
+    assert_eq!(nizkabel::key(&board, &mut plan, &mut list), nizkabel::Key { verdict: 20, planned: 0, listed: 2 });
+    assert_eq!((plan, list), ([9; 12], [7, 263, 9]));
+    list = [9; 3];
+    assert_eq!(nizkabel::collapse(&board, &mut list), nizkabel::Collapse { number: 0, listed: 2 });
+    assert_eq!(list, [7, 263, 9]);
+}
+
 /// 96 zones, each with a carrier: nothing is turned back for want of room.
 #[test]
-fn the_largest_board() {
-    for headings in 0..2 {
-        let mut board = vec![1, 132, 1, 49, 0, 96];
-        for z in 0..96 {
-            board.extend([z / 2, z / 2 + 1, z + 1, headings]);
-        }
+fn the_largest_boards() {
+    for (version, heading) in [(1, 0), (1, 1), (2, 0), (2, 1)] {
+        let board = held(version, 96, heading);
         let key = owned::key(&board).unwrap();
-        let expected = if headings == 1 { (0, 96, 0) } else { (20, 0, 96) };
+        let expected = if heading == 1 { (0, 96, 0) } else { (20, 0, 96) };
         assert_eq!((key.verdict, key.entries.len(), key.blocked.len()), expected);
         assert_eq!(owned::collapse(&board).unwrap(), key.blocked);
     }

@@ -82,13 +82,34 @@ impl Board {
         self.start(v) == self.leave(w) && v / 2 != w / 2 && (held == 0 || held == carrier)
     }
 
-    pub fn bytes(&self) -> Vec<u8> {
-        let said = 4 + 4 * self.zones.len();
-        let mut out = vec![(said / 256) as u8, (said % 256) as u8, 1, self.points as u8, self.home as u8, self.zones.len() as u8];
+    /// The versions that have room for its carriers' numbers: 1 has one byte for each, 2 has two.
+    fn versions(&self) -> &'static [u8] {
+        if self.zones.iter().all(|z| z.carrier <= 255) { &[1, 2] } else { &[2] }
+    }
+
+    /// Its bytes in a version.
+    pub fn bytes_in(&self, version: u8) -> Vec<u8> {
+        let mut zones = Vec::new();
         for z in &self.zones {
-            out.extend([z.a as u8, z.b as u8, z.carrier as u8, z.heading as u8]);
+            zones.extend([z.a as u8, z.b as u8]);
+            if version == 2 {
+                zones.push((z.carrier / 256) as u8);
+            }
+            zones.extend([z.carrier as u8, z.heading as u8]);
         }
-        out
+        let said = (4 + zones.len()) as u16;
+        let head = [version, self.points as u8, self.home as u8, self.zones.len() as u8];
+        [&said.to_be_bytes()[..], &head, &zones].concat()
+    }
+
+    /// Its bytes in each version that has room for its carriers' numbers.
+    pub fn in_each_version(&self) -> Vec<Vec<u8>> {
+        self.versions().iter().map(|&version| self.bytes_in(version)).collect()
+    }
+
+    /// Its bytes in the first of them.
+    pub fn bytes(&self) -> Vec<u8> {
+        self.bytes_in(self.versions()[0])
     }
 }
 
@@ -101,20 +122,17 @@ pub fn read(bytes: &[u8]) -> Result<Board, u32> {
     if said != bytes.len() - 2 {
         return Err(2);
     }
-    if bytes[2] != 1 {
+    let version = bytes[2];
+    if ![1, 2].contains(&version) {
         return Err(3);
     }
     let (points, home, count) = (bytes[3] as usize, bytes[4] as usize, bytes[5] as usize);
     if !(2..=64).contains(&points) || home >= points || !(2..=96).contains(&count) {
         return Err(4);
     }
-    if said != 4 + 4 * count {
+    let Some(zones) = take_zones(version, count, &bytes[6..]) else {
         return Err(5);
-    }
-    let zones: Vec<Zone> = bytes[6..]
-        .chunks(4)
-        .map(|z| Zone { a: z[0] as usize, b: z[1] as usize, carrier: z[2] as u32, heading: z[3] as u32 })
-        .collect();
+    };
     let bad = |z: &Zone| z.a >= points || z.b >= points || z.heading > 1 || (z.carrier == 0 && z.heading == 1);
     if zones.iter().any(bad) {
         return Err(6);
@@ -133,6 +151,18 @@ pub fn read(bytes: &[u8]) -> Result<Board, u32> {
         return Err(9);
     }
     Ok(Board { points, home, zones })
+}
+
+/// The zones taken from the bytes one after another; none where the bytes end too soon or go on after the last.
+fn take_zones(version: u8, count: usize, bytes: &[u8]) -> Option<Vec<Zone>> {
+    let mut rest = bytes.iter().map(|&byte| u32::from(byte));
+    let mut zones = Vec::new();
+    while zones.len() < count {
+        let (a, b) = (rest.next()? as usize, rest.next()? as usize);
+        let high = if version == 1 { 0 } else { rest.next()? };
+        zones.push(Zone { a, b, carrier: 256 * high + rest.next()?, heading: rest.next()? });
+    }
+    rest.next().is_none().then_some(zones)
 }
 
 /// Whether the transitive closure of "joined by a zone" has every pair.

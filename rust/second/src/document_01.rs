@@ -37,7 +37,7 @@ pub fn starred() -> [Row; 8] {
 }
 
 /// The input of each of the rows 1 to 9, in their order. Row 6's own has equal ends, which request c of document 02 allows: an end that is
-/// not below P stands for it.
+/// not below P stands for it. Row 3's own has version 2, which request i reads, and gives 5: version 3 stands for it.
 pub fn refused() -> [Vec<u8>; 9] {
     let with = |at: usize, bytes: &[u8]| {
         let mut board = t([0, 0], [0, 0]);
@@ -47,7 +47,7 @@ pub fn refused() -> [Vec<u8>; 9] {
     [
         vec![0, 12, 1],
         t([0, 0], [0, 0])[..13].to_vec(),
-        with(2, &[2]),
+        with(2, &[3]),
         with(3, &[1]),
         with(5, &[3]),
         with(10, &[0, 2, 0, 0]),

@@ -2,10 +2,11 @@
 
 use crate::document_01::{k, t, Row};
 
-/// A board with home 0, so many points, and for each zone its four bytes.
-fn laid_out(points: u8, zones: &[[u8; 4]]) -> Vec<u8> {
-    let count = zones.len() as u8;
-    [&[0, 4 + 4 * count, 1, points, 0, count], zones.concat().as_slice()].concat()
+/// A board with home 0, so many points, and for each zone its bytes: four in version 1, five in version 2.
+fn laid_out<const N: usize>(points: u8, zones: &[[u8; N]]) -> Vec<u8> {
+    let said = (4 + N * zones.len()) as u16;
+    let head = [N as u8 - 3, points, 0, zones.len() as u8];
+    [&said.to_be_bytes()[..], &head, &zones.concat()].concat()
 }
 
 /// Carrier 5 heads for point 1, which has this zone too.
@@ -90,4 +91,101 @@ pub fn two_zones() -> Vec<Row> {
 /// Request g: boards that are turned back; carrier 5 would be blocked alone.
 pub fn one_blocked() -> Vec<(Vec<u8>, u32)> {
     vec![(beyond(3, &[[1, 2, 5, 0]]), 8), (beyond(4, &[[2, 3, 5, 0], [2, 3, 0, 0]]), 9)]
+}
+
+const FREE: (u16, u8) = (0, 0);
+
+/// Board T in version 2 with these carriers and headings in its two zones.
+pub fn wide_t(first: (u16, u8), second: (u16, u8)) -> Vec<u8> {
+    let zone = |(carrier, heading): (u16, u8)| {
+        let [high, low] = carrier.to_be_bytes();
+        [0, 1, high, low, heading]
+    };
+    laid_out(2, &[zone(first), zone(second)])
+}
+
+/// So many zones, two between each point and the next, each with a carrier; those of version 2 have the highest numbers that there are.
+pub fn held(version: u8, zones: u8, heading: u8) -> Vec<u8> {
+    let points = zones / 2 + 1;
+    match version {
+        1 => laid_out(points, &(0..zones).map(|z| [z / 2, z / 2 + 1, z + 1, heading]).collect::<Vec<_>>()),
+        _ => laid_out(points, &(0..zones).map(|z| [z / 2, z / 2 + 1, 255, 255 - z, heading]).collect::<Vec<_>>()),
+    }
+}
+
+/// Request i: accepted boards in version 2.
+pub fn wide_carriers() -> Vec<Row> {
+    vec![
+        (wide_t(FREE, FREE), 0, &[], &[]),
+        (vec![0, 14, 2, 2, 0, 2, 0, 1, 0, 7, 0, 0, 1, 0, 0, 0], 0, &[7, 2, 0, 3], &[]),
+        (vec![0, 14, 2, 2, 0, 2, 0, 1, 1, 0, 0, 0, 1, 0, 0, 0], 0, &[256, 2, 0, 3], &[]),
+        (wide_t((256, 1), FREE), 0, &[256, 1, 1], &[]),
+        (wide_t((263, 0), FREE), 0, &[263, 2, 0, 3], &[]),
+        (wide_t(FREE, (263, 1)), 0, &[263, 1, 3], &[]),
+        (wide_t((65535, 0), FREE), 0, &[65535, 2, 0, 3], &[]),
+        (wide_t((65535, 1), FREE), 0, &[65535, 1, 1], &[]),
+        (wide_t((7, 0), (263, 0)), 20, &[], &[7, 263]),
+        (wide_t((263, 0), (7, 0)), 20, &[], &[7, 263]),
+        (wide_t((7, 0), (263, 1)), 0, &[263, 1, 3, 7, 2, 0, 3], &[]),
+        (wide_t((263, 1), (7, 1)), 0, &[7, 1, 3, 263, 1, 1], &[]),
+        (wide_t((256, 1), (255, 1)), 0, &[255, 1, 3, 256, 1, 1], &[]),
+        (wide_t((65535, 0), (256, 0)), 20, &[], &[256, 65535]),
+        (laid_out(2, &[[0, 1, 2, 7, 1], [0, 1, 1, 7, 1], [0, 1, 0, 7, 1]]), 0, &[7, 1, 5, 263, 1, 3, 519, 1, 1], &[]),
+        (laid_out(2, &[[0, 1, 1, 5, 0], [1, 1, 0, 0, 0]]), 0, &[261, 3, 0, 2, 1], &[]),
+    ]
+}
+
+/// Request i: boards of either version, or of neither, that are turned back.
+pub fn versions_refused() -> Vec<(Vec<u8>, u32)> {
+    let with = |at: usize, byte: u8, mut board: Vec<u8>| {
+        board[at] = byte;
+        board
+    };
+    let (t, wide) = (t([0, 0], [0, 0]), wide_t(FREE, FREE));
+    vec![
+        (with(2, 0, t.clone()), 3),
+        (with(2, 3, wide.clone()), 3),
+        (with(2, 0, wide.clone()), 3),
+        (with(3, 0, with(2, 3, t.clone())), 3),
+        (with(3, 0, with(2, 2, t.clone())), 4),
+        (with(3, 0, wide.clone()), 4),
+        (held(2, 97, 0), 4),
+        (with(2, 2, t), 5),
+        (with(2, 1, wide.clone()), 5),
+        (with(5, 3, wide), 5),
+        (vec![0, 4, 2, 2, 0, 2], 5),
+        (wide_t((0, 1), FREE), 6),
+        (wide_t((256, 2), FREE), 6),
+        (laid_out(2, &[[0, 1, 0, 0, 0], [0, 2, 0, 0, 0]]), 6),
+        (wide_t((7, 0), (7, 0)), 7),
+        (wide_t((256, 0), (256, 1)), 7),
+        (wide_t((263, 0), (263, 0)), 7),
+        (wide_t((65535, 1), (65535, 0)), 7),
+        (laid_out(2, &[[0, 1, 1, 7, 0], [0, 1, 0, 7, 0], [0, 1, 1, 7, 0]]), 7),
+        (laid_out(3, &[[0, 1, 0, 0, 0], [0, 1, 0, 0, 0], [1, 2, 1, 7, 0]]), 8),
+        (laid_out(4, &[[0, 1, 0, 0, 0], [0, 1, 0, 0, 0], [2, 3, 1, 7, 0], [2, 3, 0, 0, 0]]), 9),
+    ]
+}
+
+/// Request i: boards in version 2 and sheets with their marks.
+pub fn wide_sheets() -> Vec<(Vec<u8>, &'static [u16], u32)> {
+    let k_with = |carrier| wide_t((carrier, 0), FREE);
+    let (blocked, one_out) = (wide_t((7, 0), (263, 0)), wide_t((7, 0), (263, 1)));
+    vec![
+        (k_with(263), &[0, 263, 2, 0, 3], 0),
+        (k_with(263), &[0, 7, 2, 0, 3], 31),
+        (k_with(7), &[0, 263, 2, 0, 3], 31),
+        (k_with(263), &[0, 263, 2, 0, 2], 32),
+        (k_with(263), &[0, 263, 1, 0], 33),
+        (k_with(263), &[0], 34),
+        (k_with(263), &[1, 263], 35),
+        (k_with(65535), &[0, 65535, 2, 0, 3], 0),
+        (k_with(65535), &[0, 255, 2, 0, 3], 31),
+        (one_out.clone(), &[0, 263, 1, 3, 7, 2, 0, 3], 0),
+        (one_out, &[0, 7, 2, 0, 3], 32),
+        (blocked.clone(), &[1, 7, 263], 0),
+        (blocked.clone(), &[1, 7, 7], 35),
+        (blocked.clone(), &[1, 263, 7], 35),
+        (blocked, &[1, 7], 35),
+    ]
 }

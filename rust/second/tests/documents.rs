@@ -1,17 +1,41 @@
 //! The boards and sheets of documents 01 and 02 by the second implementation.
 
 use second::document_01::{k, refused, starred, SHEETS_FOR_K};
-use second::document_02::{at_gate, loops_refused, one_blocked, to_loop, turning_loops, two_zones, SHEETS_FOR_LOOP};
+use second::document_02::{at_gate, held, loops_refused, one_blocked, to_loop, turning_loops, two_zones, SHEETS_FOR_LOOP};
+use second::document_02::{versions_refused, wide_carriers, wide_sheets, wide_t};
 use second::{collapse, key, key_by, mark, mark_by, named, read, Board, Rule, Zone};
 
 #[test]
 fn boards() {
-    for (board, verdict, plan, blocked) in starred().into_iter().chain(turning_loops()).chain(two_zones()) {
-        let drawn = key(&board, 96, 8);
-        let list: Vec<u32> = blocked.iter().map(|&c| c.into()).collect();
-        assert_eq!((drawn.verdict, &drawn.plan[..], &drawn.list[..]), (verdict, plan, &list[..]));
-        assert_eq!(key_by(Rule::Older, &board, 96, 8), drawn);
-        assert_eq!(collapse(&board, 8), (0, list));
+    for (row, verdict, plan, blocked) in starred().into_iter().chain(turning_loops()).chain(two_zones()).chain(wide_carriers()) {
+        let said = read(&row).unwrap();
+        assert!(said.in_each_version().contains(&row));
+        for board in said.in_each_version() {
+            assert_eq!(read(&board).as_ref(), Ok(&said));
+            let drawn = key(&board, 96, 8);
+            let list: Vec<u32> = blocked.iter().map(|&c| c.into()).collect();
+            assert_eq!((drawn.verdict, &drawn.plan[..], &drawn.list[..]), (verdict, plan, &list[..]));
+            assert_eq!(key_by(Rule::Older, &board, 96, 8), drawn);
+            assert_eq!(collapse(&board, 8), (0, list));
+        }
+    }
+}
+
+/// Version 1 is written where every carrier fits, and every number up to 65535 is read as it was written.
+#[test]
+fn versions() {
+    for carrier in 1..=65535 {
+        let bytes = wide_t((carrier, 1), (0, 0));
+        let board = read(&bytes).unwrap();
+        assert_eq!(board.carriers(), [u32::from(carrier)]);
+        assert_eq!(board.bytes_in(2), bytes);
+        assert_eq!(board.bytes()[2], if carrier < 256 { 1 } else { 2 });
+    }
+    for (version, length) in [(1, 390), (2, 486)] {
+        let bytes = held(version, 96, 0);
+        assert_eq!(bytes.len(), length);
+        assert_eq!(read(&bytes).unwrap().bytes(), bytes);
+        assert_eq!(key(&bytes, 18_624, 96).list.len(), 96);
     }
 }
 
@@ -20,16 +44,21 @@ fn refusals_and_marks() {
     for (row, board) in (1..).zip(refused()) {
         assert_eq!(read(&board).err(), Some(row));
     }
-    for (board, number) in loops_refused().into_iter().chain(one_blocked()) {
+    for (board, number) in loops_refused().into_iter().chain(one_blocked()).chain(versions_refused()) {
         assert_eq!(read(&board).err(), Some(number));
     }
     assert_eq!(key(&k(), 5, 1).verdict, 10);
     assert_eq!(key(&k(), 6, 0).verdict, 11);
+    let two_out = wide_t((7, 0), (263, 0));
+    assert_eq!((key(&two_out, 12, 1).verdict, collapse(&two_out, 1).0), (11, 11));
     for (sheet, number) in SHEETS_FOR_K {
         assert_eq!(mark(&k(), sheet), number);
     }
     for (sheet, number) in SHEETS_FOR_LOOP {
         assert_eq!(mark(&to_loop([1, 1, 0, 0]), sheet), number);
+    }
+    for (board, sheet, number) in wide_sheets() {
+        assert_eq!(mark(&board, sheet), number);
     }
     for (board, sheet, older, now) in at_gate() {
         assert_eq!((mark_by(Rule::Older, &board, sheet), mark(&board, sheet)), (older, now));

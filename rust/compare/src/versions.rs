@@ -1,0 +1,88 @@
+//! Boards in versions 1 and 2: what the library says of one board in both, and how many boards of a comparison are of each kind, so that a run
+//! without them is no success.
+
+use crate::{LIST_CANARY, PLAN_CANARY};
+use second::Board;
+use std::collections::{BTreeMap, HashSet};
+
+/// All that the library says of a board: its key and its collapse, with plan and lists whole, and the marks of some sheets.
+#[derive(Debug, PartialEq)]
+pub struct Answers {
+    key: nizkabel::Key,
+    plan: Vec<u16>,
+    list: Vec<u16>,
+    collapse: nizkabel::Collapse,
+    left: Vec<u16>,
+    marks: Vec<u32>,
+}
+
+pub fn answers(bytes: &[u8], plan_room: usize, list_room: usize, sheets: &[Vec<u16>]) -> Answers {
+    let (mut plan, mut list, mut left) = (vec![PLAN_CANARY; plan_room], vec![LIST_CANARY; list_room], vec![LIST_CANARY; list_room]);
+    let key = nizkabel::key(bytes, &mut plan, &mut list);
+    let collapse = nizkabel::collapse(bytes, &mut left);
+    let marks = sheets.iter().map(|sheet| nizkabel::mark(bytes, sheet)).collect();
+    Answers { key, plan, list, collapse, left, marks }
+}
+
+/// The random boards as they are written: in version 1; in version 2 with numbers up to 255; with some over 255, of these the boards with
+/// numbers that differ in the high byte alone and those with carriers that are blocked. Then the boards that were asked about in both
+/// versions. Then the refused ones: by a version that is neither; by version and number; by version those whose L fits the other one; those
+/// with a number over 255 in two zones.
+#[derive(Debug, Default)]
+pub struct VersionTally {
+    one: usize,
+    two: usize,
+    wide: usize,
+    alike: usize,
+    blocked: usize,
+    pub in_both: usize,
+    neither: usize,
+    refused: BTreeMap<(u8, u32), usize>,
+    other_length: [usize; 2],
+    twice: usize,
+}
+
+impl VersionTally {
+    /// One board more, as it is written, with the carriers blocked on it.
+    pub fn add(&mut self, board: &Board, bytes: &[u8], blocked: &[u32]) {
+        let out = board.carriers();
+        let wide = out.iter().any(|&c| c > 255);
+        *(match (bytes[2], wide) {
+            (1, _) => &mut self.one,
+            (_, false) => &mut self.two,
+            (_, true) => &mut self.wide,
+        }) += 1;
+        self.alike += (out.iter().map(|c| c % 256).collect::<HashSet<_>>().len() < out.len()) as usize;
+        self.blocked += (wide && !blocked.is_empty()) as usize;
+    }
+
+    /// One refused board more.
+    pub fn add_refused(&mut self, bytes: &[u8], number: u32) {
+        self.neither += (number == 3) as usize;
+        if number <= 3 {
+            return;
+        }
+        let version = bytes[2];
+        *self.refused.entry((version, number)).or_default() += 1;
+        let other_size = if version == 1 { 5 } else { 4 };
+        let fits_other = bytes.len() == 6 + other_size * usize::from(bytes[5]);
+        self.other_length[usize::from(version - 1)] += (number == 5 && fits_other) as usize;
+        if number == 7 && version == 2 {
+            let mut seen = HashSet::new();
+            self.twice += bytes[6..].chunks(5).any(|zone| zone[2] != 0 && !seen.insert(&zone[2..4])) as usize;
+        }
+    }
+
+    /// Whether each kind of accepted board is a tenth of them or more, with enough in both versions and enough refused in each way.
+    pub fn fair(&self) -> bool {
+        let kinds = [self.one, self.two, self.wide, self.alike, self.blocked];
+        let boards = self.one + self.two + self.wide;
+        let refused = |version, number| self.refused.get(&(version, number)).copied().unwrap_or(0);
+        let each_row = |version| (4..=9).all(|number| 50 <= refused(version, number));
+        let [one, two] = self.other_length;
+        kinds.iter().all(|&n| boards <= 10 * n)
+            && 1_000 <= self.in_both
+            && (each_row(1) && each_row(2))
+            && [self.neither, one, two, self.twice].iter().all(|&n| 50 <= n)
+    }
+}

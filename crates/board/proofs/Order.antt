@@ -8,7 +8,7 @@ use mathlib.Core.Bool.{Bool, true, false, cond}
 use lib.ListN.{length}
 use borrow.Author.Tests.{eqb-true, ltb-false, not-false}
 use Rattle.model.specs.Lists.{numbersBelow, anyOf}
-use Rattle.model.specs.Reading.{tooShort, wrongLength, wrongVersion, outOfRange, wrongCount, badZone, repeated, underTwo, apart, refusal, lengthSaid, stride, zonesSaid, pointsSaid}
+use Rattle.model.specs.Reading.{tooShort, wrongLength, wrongVersion, outOfRange, wrongCount, badZone, repeated, underTwo, apart, refusal, lengthSaid, wide, stride, zonesSaid, pointsSaid}
 use Rattle.board.specs.Inner.{Whole, zoneRefusal, linkRefusal}
 
 -- what a function answered is what the definition says
@@ -107,5 +107,5 @@ module _ (b : List ℕ) where
   unfolding wrongLength wrongCount
   whole e f =
       let l : lengthSaid b + 2 ≡ length b = eqb-true (lengthSaid b + 2) (length b) (not-false _ e) in
-      let k : lengthSaid b ≡ 4 + stride b * zonesSaid b = eqb-true (lengthSaid b) (4 + stride b * zonesSaid b) (not-false _ f) in
+      let k : lengthSaid b ≡ 4 + stride (wide b) * zonesSaid b = eqb-true (lengthSaid b) (4 + stride (wide b) * zonesSaid b) (not-false _ f) in
       omega arith

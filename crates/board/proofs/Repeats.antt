@@ -1,11 +1,11 @@
 -- Row 7: the table of the low bytes met, zone by zone, and what it says of a zone's test. A carrier whose low byte isn't in the table stands in
--- no earlier zone. A zone's low byte is marked after its test, so the table is about the zones before it.
-use Prim.Native.Nat.{ℕ, suc, _+_, _%_, _≤_, _<_}
+-- no earlier zone; where it is, the earlier zones tell. A zone's low byte is marked after its test, so the table is about the zones before it.
+use Prim.Native.Nat.{ℕ, _+_, _%_, _≤_, _<_}
 use native.Mathlib.Omega.{arith}
 use native.Mathlib.Numerals.{add-one}
 use mathlib.Core.List.{List, [], _∷_}
 use mathlib.Core.Path.{_≡_, refl, sym, _∙_, ap, subst}
-use mathlib.Core.Bool.{Bool, true, false, not, _&&_, _||_, or-false, true≢false}
+use mathlib.Core.Bool.{Bool, true, false, not, _&&_, _||_, or-false, and-false, true≢false}
 use lib.ListN.{length, getD, set, replicate, length-set}
 use lib.Seq.{getD-set-same, getD-set-other}
 use lib.Dec.{eqb}
@@ -30,16 +30,12 @@ pub record Seen (b : List ℕ) (seen : List Bool) (z : ℕ) : Type 0 where
 pub seen-first : (b : List ℕ) → Seen b (replicate 256 false) 0
 seen-first b = record { size = refl; marked = λ y l. absurd (omega arith) }
 
--- one that doesn't pass adds nothing
-any-next : (f : ℕ → Bool) (n : ℕ) → f n ≡ false → anyOf f (numbersBelow (suc n)) ≡ anyOf f (numbersBelow n)
-any-next f n e = ap (anyOf f) (below-suc n) ∙ any-append f (numbersBelow n) (n ∷ []) ∙ ap (λ (t : Bool). anyOf f (numbersBelow n) || (t || false)) e ∙ or-false (anyOf f (numbersBelow n))
-
 module _ {b : List ℕ} {seen : List Bool} {z : ℕ} {r : Zone} (S : Seen b seen z) (Z : ZoneAt b z r) where
-  pub seen-free : r .carrier ≡ 0 → Seen b seen (z + 1)
-  seen-free e = record { size = S .size; marked = below-more (Marked b seen) z (S .marked) (λ n. absurd (n (sym (Z .carrier-is) ∙ e))) }
-
-  pub seen-held : Seen b (set seen (r .carrier % 256) true) (z + 1)
-  seen-held = record { size = length-set seen (r .carrier % 256) true ∙ S .size; marked = below-more (Marked b (set seen (r .carrier % 256) true)) z (λ y l n. kept y (S .marked y l n)) (λ n. at (carrierIn b z % 256) (sym low)) }
+  pub seen-next : Seen b (set seen (r .carrier % 256) true) (z + 1)
+  seen-next = record {
+    size = length-set seen (r .carrier % 256) true ∙ S .size;
+    marked = below-more (Marked b (set seen (r .carrier % 256) true)) z (λ y l n. kept y (S .marked y l n)) (λ n. at (carrierIn b z % 256) (sym low));
+  }
     where
       low : r .carrier % 256 ≡ carrierIn b z % 256
       low = ap (λ (x : ℕ). x % 256) (Z .carrier-is)
@@ -75,24 +71,26 @@ module _ {b : List ℕ} {z : ℕ} {r : Zone} (Z : ZoneAt b z r) where
   pub another : {c : ℕ} → (r .carrier ≡ c → ⊥) → eqb (carrierIn b z) c ≡ false
   another {c} n = ne-eqb (carrierIn b z) c (λ e. n (Z .carrier-is ∙ e))
 
-  repeated-is : (r .carrier ≡ 0 → ⊥) → repeated b z ≡ stoodBefore b (r .carrier) z
+  repeated-is : repeated b z ≡ (not (eqb (r .carrier) 0) && stoodBefore b (r .carrier) z)
   unfolding repeated stoodBefore
-  repeated-is n = ap (λ (x : ℕ). not (eqb x 0) && anyOf (λ y. eqb (carrierIn b y) x) (numbersBelow z)) (sym (Z .carrier-is)) ∙ simp (ne-eqb (r .carrier) 0 n)
+  repeated-is = ap (λ (x : ℕ). not (eqb x 0) && anyOf (λ y. eqb (carrierIn b y) x) (numbersBelow z)) (sym (Z .carrier-is))
 
-  repeated-free : r .carrier ≡ 0 → repeated b z ≡ false
-  unfolding repeated
-  repeated-free e = ap (λ (x : ℕ). not (eqb x 0) && anyOf (λ y. eqb (carrierIn b y) x) (numbersBelow z)) (sym (Z .carrier-is) ∙ e)
+  -- row 7's test of the zone
+  pub repeated-free : r .carrier ≡ 0 → repeated b z ≡ false
+  repeated-free e = repeated-is ∙ ap (λ (x : ℕ). not (eqb x 0) && stoodBefore b x z) e
 
-  -- whether a carrier stood before, of one zone more
-  module _ {t : Bool} (T : t ≡ anyOf (repeated b) (numbersBelow z)) where
-    same-next : repeated b z ≡ false → t ≡ anyOf (repeated b) (numbersBelow (z + 1))
-    same-next e = T ∙ sym (ap (λ (x : ℕ). anyOf (repeated b) (numbersBelow x)) (add-one z) ∙ any-next (repeated b) z e)
+  pub repeated-new : false ≡ stoodBefore b (r .carrier) z → repeated b z ≡ false
+  repeated-new e = repeated-is ∙ ap (λ (s : Bool). not (eqb (r .carrier) 0) && s) (sym e) ∙ and-false (not (eqb (r .carrier) 0))
 
-    pub again-free : r .carrier ≡ 0 → t ≡ anyOf (repeated b) (numbersBelow (z + 1))
-    again-free e = same-next (repeated-free e)
+  pub repeated-met : (r .carrier ≡ 0 → ⊥) → true ≡ stoodBefore b (r .carrier) z → repeated b z ≡ true
+  repeated-met n e = repeated-is ∙ simp (ne-eqb (r .carrier) 0 n) (sym e)
 
-    pub again-new : (r .carrier ≡ 0 → ⊥) → false ≡ stoodBefore b (r .carrier) z → t ≡ anyOf (repeated b) (numbersBelow (z + 1))
-    again-new n e = same-next (repeated-is n ∙ sym e)
+-- whether a carrier stood before, of one zone more
+module _ (b : List ℕ) (z : ℕ) where
+  pub again-none : {t : Bool} → t ≡ anyOf (repeated b) (numbersBelow z) → repeated b z ≡ false → t ≡ anyOf (repeated b) (numbersBelow (z + 1))
+  again-none T e =
+      T ∙ sym (ap (λ (x : ℕ). anyOf (repeated b) (numbersBelow x)) (add-one z) ∙ ap (anyOf (repeated b)) (below-suc z) ∙ any-append (repeated b) (numbersBelow z) (z ∷ []) ∙
+      ap (λ (t : Bool). anyOf (repeated b) (numbersBelow z) || (t || false)) e ∙ or-false (anyOf (repeated b) (numbersBelow z)))
 
-  pub again-met : (r .carrier ≡ 0 → ⊥) → true ≡ stoodBefore b (r .carrier) z → true ≡ anyOf (repeated b) (numbersBelow (z + 1))
-  again-met n e = sym (below-any (repeated b) (z + 1) z (omega arith) (repeated-is n ∙ sym e))
+  pub again-met : repeated b z ≡ true → true ≡ anyOf (repeated b) (numbersBelow (z + 1))
+  again-met e = sym (below-any (repeated b) (z + 1) z (omega arith) e)

@@ -1,15 +1,16 @@
 -- Rows 2 to 6 from the bytes that were read: what each way through the tests says of the definition's test.
 -- The bytes stand for what the definition reads, and each comparison then decides one of its parts.
 use Prim.Native.Nat.{ℕ, _+_, _*_, _≤_, _<_}
+use native.Mathlib.Omega.{arith}
 use mathlib.Core.List.{List}
 use mathlib.Core.Path.{_≡_, refl, sym, _∙_, ap, ap₂}
 use mathlib.Core.Bool.{Bool, true, false, not, _&&_, _||_}
 use lib.ListN.{length}
 use lib.Dec.{leb, ltb, eqb}
-use borrow.Author.Tests.{lt-ltb, le-ltb, le-leb, lt-leb, eq-eqb, ne-eqb, leb-true, leb-false}
-use Rattle.model.specs.Reading.{wrongLength, wrongVersion, outOfRange, wrongCount, badZone}
+use borrow.Author.Tests.{lt-ltb, le-ltb, le-leb, lt-leb, eq-eqb, ne-eqb, leb-true, leb-false, eqb-true, eqb-false}
+use Rattle.model.specs.Reading.{wide, stride, wrongLength, wrongVersion, outOfRange, wrongCount, badZone}
 use Rattle.board.specs.declared.input.Zone.{Zone}
-use Rattle.board.specs.Inner.{ByteAt, Stride, ZoneAt}
+use Rattle.board.specs.Inner.{ByteAt, ZoneAt}
 
 pub ltb-is : (m n : ℕ) → ltb m n ≡ not (leb n m)
 ltb-is m n = go (leb n m) refl
@@ -33,9 +34,20 @@ module _ {b : List ℕ} {v : ℕ} (F : ByteAt b 2 v) where
   pub version-other : (v ≡ 1 → ⊥) → not (eqb v 2) ≡ wrongVersion b
   version-other n = sym (version-row ∙ simp (ne-eqb v 1 n))
 
-pub count-row : {b : List ℕ} {l m s z : ℕ} → ByteAt b 0 l → ByteAt b 1 m → Stride b s → ByteAt b 5 z → not (eqb (256 * l + m) (4 + s * z)) ≡ wrongCount b
+pub count-row : {b : List ℕ} {l m z k : ℕ} {w : Bool} → ByteAt b 0 l → ByteAt b 1 m → ByteAt b 5 z → w ≡ wide b → k ≡ stride w * z + 6 → not (eqb (256 * l + m + 2) k) ≡ wrongCount b
 unfolding wrongCount
-count-row l m s z = rw (l .is, m .is, s .is, z .is)
+count-row {b} {l} {m} {z} {k} {w} L M Z W K =
+    ap₂ (λ (x y : ℕ). not (eqb x y)) (let e : 256 * l + m + 2 ≡ 256 * l + m + 2 = refl in e) K ∙
+    ap not (same-less (256 * l + m) (stride w * z)) ∙
+    rw (L .is, M .is, W, Z .is)
+  where
+    -- two more on both sides
+    same-less : (x y : ℕ) → eqb (x + 2) (y + 6) ≡ eqb x (4 + y)
+    same-less x y = go (eqb x (4 + y)) refl
+      where
+        go : (t : Bool) → eqb x (4 + y) ≡ t → eqb (x + 2) (y + 6) ≡ t
+        go true e = eq-eqb (x + 2) (y + 6) (let q : x ≡ 4 + y = eqb-true x (4 + y) e in omega arith)
+        go false e = ne-eqb (x + 2) (y + 6) (λ q. eqb-false x (4 + y) e (omega arith))
 
 module _ {b : List ℕ} {p h z : ℕ} (P : ByteAt b 3 p) (H : ByteAt b 4 h) (Z : ByteAt b 5 z) where
   range-row : outOfRange b ≡ not (leb 2 p && (leb p 64 && (ltb h p && (leb 2 z && leb z 96))))

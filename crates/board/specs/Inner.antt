@@ -9,7 +9,7 @@ use mathlib.Core.Bool.{Bool, true, cond}
 use lib.Dec.{leb, eqb}
 use Rattle.model.specs.Lists.{numbersBelow, anyOf, howMany}
 use Rattle.model.specs.Track.{rev}
-use Rattle.model.specs.Reading.{byte, endA, endB, carrierIn, headingIn, stride, zoneFrom, endSaid, pointsSaid, homeSaid, zonesSaid, badZone, repeated, underTwo, apart}
+use Rattle.model.specs.Reading.{byte, endA, endB, carrierIn, headingIn, wide, zoneFrom, endSaid, pointsSaid, homeSaid, zonesSaid, badZone, repeated, underTwo, apart}
 use Rattle.bits.specs.Sets.{hasBit}
 use Rattle.reach.specs.Ways.{WaysOver}
 use Rattle.board.specs.declared.input.Zone.{Zone}
@@ -19,20 +19,14 @@ pub record ByteAt (b : List ℕ) (i r : ℕ) : Type 0 where
   pub is : r ≡ byte b i
   pub small : r < 256
 
--- the bytes of a zone, counted
-pub record Stride (b : List ℕ) (r : ℕ) : Type 0 where
-  pub is : r ≡ stride b
-  pub least : 4 ≤ r
-  pub most : r ≤ 5
-
 -- what rows 2 and 5 leave: six bytes of the head, and those of each zone
 abbrev pub Whole : List ℕ → Type 0
 Whole b = length b ≡ zoneFrom b (zonesSaid b)
 
--- z is one of the zones of a whole board, each with so many bytes
-pub record ZoneIn (b : List ℕ) (s z : ℕ) : Type 0 where
+-- z is one of the zones of a whole board, whose carriers have two bytes or not
+pub record ZoneIn (b : List ℕ) (w : Bool) (z : ℕ) : Type 0 where
   pub whole : Whole b
-  pub counted : Stride b s
+  pub version : w ≡ wide b
   pub inside : z < zonesSaid b
   pub few : z < 256
 

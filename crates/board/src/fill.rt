@@ -1,6 +1,6 @@
 // The two arrays of a board that is read.
 use crate::input::byte;
-use crate::input::stride;
+use crate::input::is_wide;
 use crate::input::zone_at;
 ghost use Prim.Native.Nat.{_≤_};
 ghost use mathlib.Core.Path.{_≡_};
@@ -16,10 +16,10 @@ pub fn arrays(bytes: &[u8], ends: &mut [usize], position: &mut [u32])
     ensures { λ r. ⌜ now (position .exit) ≡ padded 96 (positionSaid (now (bytes .entry))) ⌝ }
 {
     let zones = byte(bytes, 5);
-    let stride = stride(bytes);
+    let wide = is_wide(bytes);
     let mut z = 0;
     while z < zones {
-        let said = zone_at(bytes, stride, z);
+        let said = zone_at(bytes, wide, z);
         ends[2 * z] = said.a;
         ends[2 * z + 1] = said.b;
         position[z] = (2 * said.carrier + said.heading) as u32;

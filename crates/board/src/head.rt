@@ -1,6 +1,7 @@
 // Rows 1 to 5: what the first six bytes and the number of bytes say.
 use crate::input::byte;
-use crate::input::stride;
+use crate::input::is_wide;
+use crate::input::zone_from;
 ghost use Prim.Native.Nat.{_≤_};
 ghost use mathlib.Core.Path.{_≡_};
 ghost use lib.ListN.{length};
@@ -62,6 +63,6 @@ pub fn wrong_count(bytes: &[u8]) -> bool
     ensures { λ r. ⌜ r ≡ wrongCount (now (bytes .entry)) ⌝ }
 {
     let said = 256 * byte(bytes, 0) + byte(bytes, 1);
-    let each = stride(bytes);
-    said != 4 + each * byte(bytes, 5)
+    let wide = is_wide(bytes);
+    said + 2 != zone_from(wide, byte(bytes, 5))
 }

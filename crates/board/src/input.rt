@@ -1,7 +1,9 @@
-// The bytes of a board: one of them, and those of a zone in either version. Nothing past this file knows a version but rows 3 and 5.
-ghost use Prim.Native.Nat.{_≤_, _<_};
+// The bytes of a board: one of them, and those of a zone in either version. Nothing past this file knows a version but row 3.
+ghost use Prim.Native.Nat.{_+_, _*_, _≤_, _<_};
+ghost use mathlib.Core.Path.{_≡_};
 ghost use lib.ListN.{length};
-ghost use Rattle.board.specs.Inner.{ByteAt, Stride, ZoneIn, ZoneAt};
+ghost use Rattle.model.specs.Reading.{wide, stride};
+ghost use Rattle.board.specs.Inner.{ByteAt, ZoneIn, ZoneAt};
 
 // A zone as a board says it.
 pub struct Zone {
@@ -18,40 +20,49 @@ pub fn byte(bytes: &[u8], i: usize) -> usize
     bytes[i] as usize
 }
 
-// How many bytes a zone has: four in version 1, five in version 2.
-pub fn stride(bytes: &[u8]) -> usize
+// Whether a carrier has two bytes, as in version 2.
+pub fn is_wide(bytes: &[u8]) -> bool
     requires { ⌜ 6 ≤ length (now bytes) ⌝ }
-    ensures { λ r. ⌜ Stride (now (bytes .entry)) r ⌝ }
+    ensures { λ r. ⌜ r ≡ wide (now (bytes .entry)) ⌝ }
 {
-    if byte(bytes, 2) == 2 {
-        return 5;
+    byte(bytes, 2) == 2
+}
+
+// Where the bytes of a zone begin; and, after the last zone, how many bytes there are. Each product has its own literal, so that the loops over
+// the zones are compiled for each version.
+pub fn zone_from(wide: bool, z: usize) -> usize
+    requires { ⌜ z < 256 ⌝ }
+    ensures { λ r. ⌜ r ≡ stride wide * z + 6 ⌝ }
+{
+    if wide {
+        return 5 * z + 6;
     }
-    4
+    4 * z + 6
 }
 
 // One of the zones. A carrier has one byte or two, the high one first.
-pub fn zone_at(bytes: &[u8], stride: usize, z: usize) -> Zone
-    requires { ⌜ ZoneIn (now bytes) stride z ⌝ }
+pub fn zone_at(bytes: &[u8], wide: bool, z: usize) -> Zone
+    requires { ⌜ ZoneIn (now bytes) wide z ⌝ }
     ensures { λ r. ⌜ ZoneAt (now (bytes .entry)) z r ⌝ }
 {
-    let from = stride * z + 6;
+    let from = zone_from(wide, z);
     let a = byte(bytes, from);
     let b = byte(bytes, from + 1);
     let first = byte(bytes, from + 2);
     let next = byte(bytes, from + 3);
-    if stride == 4 {
+    if wide {
+        let heading = byte(bytes, from + 4);
         return Zone {
             a: a,
             b: b,
-            carrier: first,
-            heading: next,
+            carrier: 256 * first + next,
+            heading: heading,
         };
     }
-    let heading = byte(bytes, from + 4);
     Zone {
         a: a,
         b: b,
-        carrier: 256 * first + next,
-        heading: heading,
+        carrier: first,
+        heading: next,
     }
 }

@@ -1,6 +1,6 @@
 // Rows 8 and 9: that each point but home has two zones, and that all points hang together.
 use crate::input::byte;
-use crate::input::stride;
+use crate::input::is_wide;
 use crate::input::zone_at;
 ghost use Prim.Native.Nat.{_*_, _^_, _<_};
 ghost use mathlib.Core.Path.{_≡_};
@@ -23,12 +23,12 @@ fn add_ways(bytes: &[u8], ways: &mut [u64]) -> u64
     ensures { λ r. ⌜ WaysOf (now (bytes .entry)) (now (ways .exit)) (2 * zonesSaid (now (bytes .entry))) × Doubled (now (bytes .entry)) r ⌝ }
 {
     let zones = byte(bytes, 5);
-    let stride = stride(bytes);
+    let wide = is_wide(bytes);
     let mut once = 0;
     let mut twice = 0;
     let mut z = 0;
     while z < zones {
-        let said = zone_at(bytes, stride, z);
+        let said = zone_at(bytes, wide, z);
         let a = said.a;
         let b = said.b;
         twice = add_second(once, twice, a);

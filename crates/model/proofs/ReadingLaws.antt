@@ -13,7 +13,7 @@ use Rattle.model.specs.Lists.{numbersBelow, anyOf, allOf, howMany}
 use Rattle.model.specs.Track.{zoneOf, headingOf, start}
 use Rattle.model.specs.Position.{at, Stands, Once}
 use Rattle.model.specs.Labels.{label, parts}
-use Rattle.model.specs.Reading.{byte, twoBytes, wide, zoneFrom, endSaid, pointsSaid, homeSaid, zonesSaid, endA, endB, carrierIn, headingIn, trackSaid, positionSaid, tooShort, wrongLength, wrongVersion, outOfRange, wrongCount, badZone, repeated, underTwo, apart, refusal}
+use Rattle.model.specs.Reading.{byte, wide, zoneFrom, endSaid, pointsSaid, homeSaid, zonesSaid, endA, endB, carrierIn, headingIn, trackSaid, positionSaid, tooShort, wrongLength, wrongVersion, outOfRange, wrongCount, badZone, repeated, underTwo, apart, refusal}
 use Rattle.model.specs.Accepted.{HangsTogether, AcceptedTrack, Laid, heldLimit, Limited, Ready}
 use Rattle.model.proofs.BoolLaws.{both-ways, decided, and-left, and-right, and-both, or-false-left, or-false-right}
 use Rattle.model.proofs.ListLaws.{length-below, any-below-false, below-any, all-below, all-below-false}
@@ -276,11 +276,11 @@ start-in b zones w h = go (heading-cases b w)
 -- a carrier has one byte or two
 pub carrier-small : (b : List ℕ) → ((i : ℕ) → getD b i 0 < 256) → (z : ℕ) → carrierIn b z < 65536
 unfolding carrierIn
-carrier-small b bytes z = go (wide b)
+carrier-small b bytes z = either (wide b) (omega (arith, bytes (zoneFrom b z + 2), bytes (zoneFrom b z + 2 + 1))) (omega (arith, bytes (zoneFrom b z + 2)))
   where
-    go : (t : Bool) → cond t (twoBytes b (zoneFrom b z + 2)) (byte b (zoneFrom b z + 2)) < 65536
-    go true = omega (arith, bytes (zoneFrom b z + 2), bytes (zoneFrom b z + 2 + 1))
-    go false = omega (arith, bytes (zoneFrom b z + 2))
+    either : (t : Bool) {x y n : ℕ} → x < n → y < n → cond t x y < n
+    either true h k = h
+    either false h k = k
 
 module _ (b : List ℕ) (n : NoRow b) where
   -- the carrier of a standing is that of its zone

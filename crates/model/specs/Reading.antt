@@ -10,6 +10,10 @@ use Rattle.model.specs.Track.{Track}
 use Rattle.model.specs.Position.{Position}
 use Rattle.model.specs.Labels.{label, parts}
 
+-- how many bytes a zone has, by whether a carrier has two: end A, end B, the carrier, the heading
+unfoldable pub stride : Bool → ℕ
+stride wide = cond wide 5 4
+
 module _ (b : List ℕ) where
   abbrev pub byte : ℕ → ℕ
   byte i = getD b i 0
@@ -38,13 +42,9 @@ module _ (b : List ℕ) where
   abbrev pub wide : Bool
   wide = eqb versionSaid 2
 
-  -- how many bytes a zone has: end A, end B, the carrier, the heading
-  unfoldable pub stride : ℕ
-  stride = cond wide 5 4
-
   -- where the bytes of a zone begin
   abbrev pub zoneFrom : ℕ → ℕ
-  zoneFrom z = stride * z + 6
+  zoneFrom z = stride wide * z + 6
 
   abbrev pub endA : ℕ → ℕ
   endA z = byte (zoneFrom z)
@@ -57,7 +57,7 @@ module _ (b : List ℕ) where
 
   -- the last byte of the zone
   abbrev pub headingIn : ℕ → ℕ
-  headingIn z = byte (zoneFrom z + (stride - 1))
+  headingIn z = byte (zoneFrom z + (stride wide - 1))
 
   -- the point where the word w starts
   abbrev pub endSaid : ℕ → ℕ
@@ -93,7 +93,7 @@ module _ (b : List ℕ) where
 
   -- row 5: L isn't 4 + 4 × Z in version 1, 4 + 5 × Z in version 2
   unfoldable pub wrongCount : Bool
-  wrongCount = not (eqb lengthSaid (4 + stride * zonesSaid))
+  wrongCount = not (eqb lengthSaid (4 + stride wide * zonesSaid))
 
   -- row 6, of one zone: an end not below P, heading over 1, or a free zone with heading 1. Equal ends are allowed.
   unfoldable pub badZone : ℕ → Bool

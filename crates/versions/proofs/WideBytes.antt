@@ -11,7 +11,7 @@ use lib.Seq.{getD-append-add}
 use lib.Dec.{eqb}
 use borrow.Author.Tests.{eqb-true, eqb-false}
 use Rattle.model.specs.Lists.{numbersBelow}
-use Rattle.model.specs.Reading.{byte, twoBytes, stride, zoneFrom, pointsSaid, homeSaid, zonesSaid, endA, endB, carrierIn, headingIn, endSaid, trackSaid, positionSaid}
+use Rattle.model.specs.Reading.{byte, twoBytes, wide, stride, zoneFrom, pointsSaid, homeSaid, zonesSaid, endA, endB, carrierIn, headingIn, endSaid, trackSaid, positionSaid}
 use Rattle.model.proofs.ListLaws.{length-below, getD-below, mem-below}
 use Rattle.model.proofs.PlaceLaws.{map-ext}
 use Rattle.model.proofs.WordLaws.{zone-below}
@@ -32,7 +32,7 @@ module _ (b : List ℕ) where
   unfolding inVersion2
   length-wide = omega (arith, length-fives (wideZone b) (λ z. refl) (numbersBelow (zonesSaid b)), length-below (zonesSaid b))
 
-  pub wide-stride : stride (inVersion2 b) ≡ 5
+  pub wide-stride : stride (wide (inVersion2 b)) ≡ 5
   unfolding stride inVersion2
   wide-stride = refl
 
@@ -59,7 +59,7 @@ module _ (b : List ℕ) where
     wide-b = at-zone 1 1 (omega arith) refl
 
     pub wide-heading : headingIn (inVersion2 b) z ≡ headingIn b z
-    wide-heading = at-zone 4 (stride (inVersion2 b) - 1) (omega arith) (ap (λ (s : ℕ). s - 1) wide-stride)
+    wide-heading = at-zone 4 (stride (wide (inVersion2 b)) - 1) (omega arith) (ap (λ (s : ℕ). s - 1) wide-stride)
 
     two-bytes : carrierIn (inVersion2 b) z ≡ twoBytes (inVersion2 b) (zoneFrom (inVersion2 b) z + 2)
     unfolding carrierIn inVersion2
@@ -102,7 +102,7 @@ module _ (b : List ℕ) where
     zone-bytes z (suc zero) = bytes (zoneFrom b z + 1)
     zone-bytes z (suc (suc zero)) = omega (arith, carrier-small b bytes z)
     zone-bytes z (suc (suc (suc zero))) = omega arith
-    zone-bytes z (suc (suc (suc (suc zero)))) = bytes (zoneFrom b z + (stride b - 1))
+    zone-bytes z (suc (suc (suc (suc zero)))) = bytes (zoneFrom b z + (stride (wide b) - 1))
     zone-bytes z (suc (suc (suc (suc (suc k))))) = omega arith
 
     pub wide-bytes : (i : ℕ) → byte (inVersion2 b) i < 256

@@ -10,7 +10,7 @@ use borrow.Author.Tests.{le-ltb, eq-eqb}
 use Rattle.model.specs.Lists.{numbersBelow, anyOf, allOf, howMany}
 use Rattle.model.specs.Track.{Track}
 use Rattle.model.specs.Labels.{label, parts}
-use Rattle.model.specs.Reading.{lengthSaid, stride, pointsSaid, homeSaid, zonesSaid, carrierIn, trackSaid, tooShort, wrongLength, wrongVersion, outOfRange, wrongCount, badZone, repeated, underTwo, apart, refusal}
+use Rattle.model.specs.Reading.{lengthSaid, wide, stride, pointsSaid, homeSaid, zonesSaid, carrierIn, trackSaid, tooShort, wrongLength, wrongVersion, outOfRange, wrongCount, badZone, repeated, underTwo, apart, refusal}
 use Rattle.model.proofs.ListLaws.{any-below-false, below-any-false, any-ext, mem-below}
 use Rattle.model.proofs.ReadingLaws.{NoRow, no-row, together}
 use Rattle.versions.specs.Versions.{inVersion2}
@@ -39,7 +39,7 @@ module _ (b : List ℕ) where
 
   row-5 : wrongCount (inVersion2 b) ≡ false
   unfolding wrongCount inVersion2
-  row-5 = ap not (eq-eqb (lengthSaid (inVersion2 b)) (4 + stride (inVersion2 b) * zonesSaid b) (said-length ∙ ap (λ (s : ℕ). 4 + s * zonesSaid b) (sym (wide-stride b))))
+  row-5 = ap not (eq-eqb (lengthSaid (inVersion2 b)) (4 + stride (wide (inVersion2 b)) * zonesSaid b) (said-length ∙ ap (λ (s : ℕ). 4 + s * zonesSaid b) (sym (wide-stride b))))
 
   module _ (n : NoRow b) where
     -- of one zone: row 6 and row 7 test what it says

@@ -11,10 +11,10 @@ use Rattle.board.proofs.fill.arrays.Statement.{statement}
 use Rattle.board.proofs.fill.arrays.Tie as tie
 
 abbrev Inv-loop : tie.InvT-loop
-Inv-loop bytes ends₀ position₀ zones stride z₀ ends position z = (z ≤ zones) × (ends ≡ filled 192 (endSaid bytes) (2 * z)) × (position ≡ filled 96 (heldSaid bytes) z)
+Inv-loop bytes ends₀ position₀ zones wide z₀ ends position z = (z ≤ zones) × (ends ≡ filled 192 (endSaid bytes) (2 * z)) × (position ≡ filled 96 (heldSaid bytes) z)
 
 abbrev μ-loop : tie.MeasureT-loop
-μ-loop bytes ends₀ position₀ zones stride z₀ ends position z = zones - z
+μ-loop bytes ends₀ position₀ zones wide z₀ ends position z = zones - z
 
 -- the zone is one of 96 at most, and both arrays have kept their length
 few : (c : tie.In-loop Inv-loop μ-loop) → c .before .loop .z < 96
@@ -29,14 +29,14 @@ position-long c = position-size (c .before .before .before .before .before .befo
 byte-requires : tie.Need-byte-requires Inv-loop μ-loop
 byte-requires c κs = omega (arith, c .before .before .before .pre .0 .0)
 
-stride-requires : tie.Need-stride-requires Inv-loop μ-loop
-stride-requires c κs = omega (arith, c .before .before .before .before .pre .0 .0)
+is-wide-requires : tie.Need-is-wide-requires Inv-loop μ-loop
+is-wide-requires c κs = omega (arith, c .before .before .before .before .pre .0 .0)
 
 loop-holds : tie.Need-loop-holds Inv-loop μ-loop
 loop-holds c = (omega arith, c .before .before .before .before .before .pre .1 .0, c .before .before .before .before .before .pre .1 .1)
 
 zone-at-requires : tie.Need-zone-at-requires Inv-loop μ-loop
-zone-at-requires c κs = zone-in (c .before .before .before .before .before .before .before .pre .0 .0) (c .before .before .stride .ensures) (c .before .before .before .byte .ensures) (c .loop-test .taken)
+zone-at-requires c κs = zone-in (c .before .before .before .before .before .before .before .pre .0 .0) (c .before .before .is-wide .ensures) (c .before .before .before .byte .ensures) (c .loop-test .taken)
 
 mul-ends : tie.Need-mul-ends Inv-loop μ-loop
 mul-ends c = omega arith
@@ -106,7 +106,7 @@ arrays-spec =
     Inv-loop
     μ-loop
     byte-requires
-    stride-requires
+    is-wide-requires
     loop-holds
     zone-at-requires
     mul-ends

@@ -1,8 +1,7 @@
 -- `wrong_count` is row 5's test.
--- Its bytes stand for those that the definition reads, and its stride for the definition's.
+-- Its bytes stand for those that the definition reads; after the last zone begins what would be the next one.
 use native.Mathlib.Omega.{arith}
 use Rattle.board.proofs.Rows.{count-row}
-use Rattle.board.proofs.ZoneBytes.{times-byte}
 use borrow.Author.Needs.{needs}
 use Rattle.board.proofs.head.wrong_count.Statement.{statement}
 use Rattle.board.proofs.head.wrong_count.Tie as tie
@@ -19,20 +18,20 @@ byte-requires-2 c κs = search needs
 add-said : tie.Need-add-said
 add-said c = search needs
 
-stride-requires : tie.Need-stride-requires
-stride-requires c κs = search needs
+is-wide-requires : tie.Need-is-wide-requires
+is-wide-requires c κs = search needs
+
+add-result : tie.Need-add-result
+add-result c = omega (arith, c .before .before .byte .ensures .small, c .before .byte2 .ensures .small)
 
 byte-requires-3 : tie.Need-byte-requires-3
 byte-requires-3 c κs = search needs
 
-mul-result : tie.Need-mul-result
-mul-result c = omega (arith, times-byte (c .before .stride .ensures) (c .byte3 .ensures .small))
-
-add-result : tie.Need-add-result
-add-result c = omega (arith, times-byte (c .before .stride .ensures) (c .byte3 .ensures .small))
+zone-from-requires : tie.Need-zone-from-requires
+zone-from-requires c κs = c .byte3 .ensures .small
 
 returns : tie.Need-returns
-returns c = count-row (c .before .before .before .byte .ensures) (c .before .before .byte2 .ensures) (c .before .stride .ensures) (c .byte3 .ensures)
+returns c = count-row (c .before .before .before .before .byte .ensures) (c .before .before .before .byte2 .ensures) (c .before .byte3 .ensures) (c .before .before .is-wide .ensures) (c .zone-from .ensures)
 
 pub wrong-count-spec : {M : Type 1} → statement M
 wrong-count-spec =
@@ -42,8 +41,8 @@ wrong-count-spec =
     mul-said
     byte-requires-2
     add-said
-    stride-requires
-    byte-requires-3
-    mul-result
+    is-wide-requires
     add-result
+    byte-requires-3
+    zone-from-requires
     returns)

@@ -12,10 +12,10 @@ use Rattle.board.proofs.links.add_ways.Statement.{statement}
 use Rattle.board.proofs.links.add_ways.Tie as tie
 
 abbrev Inv-loop : tie.InvT-loop
-Inv-loop bytes ways₀ zones stride once₀ twice₀ z₀ ways once twice z = (z ≤ zones) × WaysOf bytes ways (2 * z) × StartsTwice bytes once twice (2 * z)
+Inv-loop bytes ways₀ zones wide once₀ twice₀ z₀ ways once twice z = (z ≤ zones) × WaysOf bytes ways (2 * z) × StartsTwice bytes once twice (2 * z)
 
 abbrev μ-loop : tie.MeasureT-loop
-μ-loop bytes ways₀ zones stride once₀ twice₀ z₀ ways once twice z = zones - z
+μ-loop bytes ways₀ zones wide once₀ twice₀ z₀ ways once twice z = zones - z
 
 -- both ends of the zone are points
 first : (c : tie.After-zone-at Inv-loop μ-loop) → c .zone-at .result .a < 64
@@ -27,14 +27,14 @@ second c = let looping = c .before in second-in (looping .before .before .before
 byte-requires : tie.Need-byte-requires Inv-loop μ-loop
 byte-requires c κs = omega (arith, c .before .before .pre .0 .0)
 
-stride-requires : tie.Need-stride-requires Inv-loop μ-loop
-stride-requires c κs = omega (arith, c .before .before .before .pre .0 .0)
+is-wide-requires : tie.Need-is-wide-requires Inv-loop μ-loop
+is-wide-requires c κs = omega (arith, c .before .before .before .pre .0 .0)
 
 loop-holds : tie.Need-loop-holds Inv-loop μ-loop
 loop-holds c = (omega arith, ways-first (c .before .before .before .before .args .bytes .now) (c .before .before .before .before .pre .1), starts-first _)
 
 zone-at-requires : tie.Need-zone-at-requires Inv-loop μ-loop
-zone-at-requires c κs = zone-in (c .before .before .before .before .before .before .pre .0 .0) (c .before .before .stride .ensures) (c .before .before .before .byte .ensures) (c .loop-test .taken)
+zone-at-requires c κs = zone-in (c .before .before .before .before .before .before .pre .0 .0) (c .before .before .is-wide .ensures) (c .before .before .before .byte .ensures) (c .loop-test .taken)
 
 add-second-requires : tie.Need-add-second-requires Inv-loop μ-loop
 add-second-requires c κs = first c
@@ -90,7 +90,7 @@ add-ways-spec =
     Inv-loop
     μ-loop
     byte-requires
-    stride-requires
+    is-wide-requires
     loop-holds
     zone-at-requires
     add-second-requires

@@ -10,26 +10,26 @@ use Rattle.model.specs.Reading.{badZone, repeated as Reading·repeated}
 use Rattle.board.specs.Inner.{ZoneIn}
 use Rattle.board.proofs.Turns.{NoneYet, none-first, none-next, met, none-met, all-met}
 use Rattle.board.proofs.ZoneBytes.{zone-in}
-use Rattle.board.proofs.Repeats.{Seen, seen-first, seen-free, seen-held, new-carrier, again-free, again-new, again-met}
+use Rattle.board.proofs.Repeats.{Seen, seen-first, seen-next, new-carrier, repeated-free, repeated-new, repeated-met, again-none, again-met}
 use Rattle.board.proofs.Order.{row-6, row-7, neither-6-7}
 use Rattle.board.proofs.zones.refusal.Statement.{statement}
 use Rattle.board.proofs.zones.refusal.Tie as tie
 
 abbrev Inv-loop : tie.InvT-loop
-Inv-loop bytes zones stride seen₀ repeated₀ z₀ seen repeated z = NoneYet (badZone bytes) zones z × Seen bytes seen z × (repeated ≡ anyOf (Reading·repeated bytes) (numbersBelow z))
+Inv-loop bytes zones wide seen₀ repeated₀ z₀ seen repeated z = NoneYet (badZone bytes) zones z × Seen bytes seen z × (repeated ≡ anyOf (Reading·repeated bytes) (numbersBelow z))
 
 abbrev μ-loop : tie.MeasureT-loop
-μ-loop bytes zones stride seen₀ repeated₀ z₀ seen repeated z = zones - z
+μ-loop bytes zones wide seen₀ repeated₀ z₀ seen repeated z = zones - z
 
 -- the loop has come to one of the zones
-come-to : (c : tie.In-loop Inv-loop μ-loop) → ZoneIn (now (c .before .before .before .before .before .args .bytes)) (c .before .before .stride .result) (c .before .loop .z)
-come-to c = zone-in (c .before .before .before .before .before .pre) (c .before .before .stride .ensures) (c .before .before .before .byte .ensures) (c .loop-test .taken)
+come-to : (c : tie.In-loop Inv-loop μ-loop) → ZoneIn (now (c .before .before .before .before .before .args .bytes)) (c .before .before .is-wide .result) (c .before .loop .z)
+come-to c = zone-in (c .before .before .before .before .before .pre) (c .before .before .is-wide .ensures) (c .before .before .before .byte .ensures) (c .loop-test .taken)
 
 byte-requires : tie.Need-byte-requires Inv-loop μ-loop
 byte-requires c κs = omega (arith, c .before .pre)
 
-stride-requires : tie.Need-stride-requires Inv-loop μ-loop
-stride-requires c κs = omega (arith, c .before .before .pre)
+is-wide-requires : tie.Need-is-wide-requires Inv-loop μ-loop
+is-wide-requires c κs = omega (arith, c .before .before .pre)
 
 loop-holds : tie.Need-loop-holds Inv-loop μ-loop
 loop-holds c = (none-first _ _, seen-first _, refl)
@@ -43,22 +43,6 @@ returns c = row-6 _ (met (badZone _) (c .before .before .before .before .before 
 zone-at-requires : tie.Need-zone-at-requires Inv-loop μ-loop
 zone-at-requires c κs = come-to (c .before .before)
 
-add-z : tie.Need-add-z Inv-loop μ-loop
-add-z c = omega (arith, c .before .before .before .before .before .before .before .byte .ensures .small, c .before .before .before .before .loop-test .taken)
-
-loop-less : tie.Need-loop-less Inv-loop μ-loop
-loop-less c = omega arith
-
-loop-again : tie.Need-loop-again Inv-loop μ-loop
-loop-again c =
-    let said = c .before in
-    let tested = said .before .before in
-    let inv = tested .before .before .loop .inv in (
-      none-next (badZone _) (inv .0) (tested .before .loop-test .taken) (sym (tested .bad .ensures) ∙ said .before .if1 .left),
-      seen-free (inv .1) (said .zone-at .ensures) (c .if2 .taken),
-      again-free (said .zone-at .ensures) (inv .2) (c .if2 .taken),
-    )
-
 array-read-if3 : tie.Need-array-read-if3 Inv-loop μ-loop
 array-read-if3 c = omega arith
 
@@ -68,25 +52,26 @@ stood-before-requires c κs = come-to (c .before .before .before .before .before
 array-write-seen : tie.Need-array-write-seen Inv-loop μ-loop
 array-write-seen c = omega arith
 
-add-z-2 : tie.Need-add-z-2 Inv-loop μ-loop
-add-z-2 c = omega arith
+add-z : tie.Need-add-z Inv-loop μ-loop
+add-z c = omega (arith, c .before .before .before .before .before .before .before .byte .ensures .small, c .before .before .before .before .loop-test .taken)
 
-loop-less-2 : tie.Need-loop-less-2 Inv-loop μ-loop
-loop-less-2 c = omega arith
+loop-less : tie.Need-loop-less Inv-loop μ-loop
+loop-less c = omega arith
 
-loop-again-2 : tie.Need-loop-again-2 Inv-loop μ-loop
-loop-again-2 c =
-    let said = c .before .before in
-    let tested = said .before .before in
+loop-again : tie.Need-loop-again Inv-loop μ-loop
+loop-again c =
+    let said = c .before in
     let zone = said .zone-at .ensures in
-    let held = c .before .if2 .left in
+    let tested = said .before .before in
     let inv = tested .before .before .loop .inv in (
       none-next (badZone _) (inv .0) (tested .before .loop-test .taken) (sym (tested .bad .ensures) ∙ said .before .if1 .left),
-      seen-held (inv .1) zone,
+      seen-next (inv .1) zone,
       ⊎-elim
-          (λ k. k .3 ∙ again-met zone held (sym (k .2 .taken) ∙ k .1 .ensures))
-          (⊎-elim (λ k. k .3 ∙ again-new zone (inv .2) held (sym (k .2 .left) ∙ k .1 .ensures)) (λ k. k .1 ∙ again-new zone (inv .2) held (new-carrier (inv .1) zone held (k .0 .left))))
-          (c .if3 .came),
+          (λ k. k .4 ∙ again-met _ _ (repeated-met zone (k .0 .taken) (sym (k .3 .taken) ∙ k .2 .ensures)))
+          (⊎-elim
+          (λ k. k .4 ∙ again-none _ _ (inv .2) (repeated-new zone (sym (k .3 .left) ∙ k .2 .ensures)))
+          (λ k. k .1 ∙ again-none _ _ (inv .2) (⊎-elim (λ j. repeated-new zone (new-carrier (inv .1) zone (j .0 .taken) (j .1 .left))) (λ j. repeated-free zone (j .left)) (k .0 .came))))
+          (c .if2 .came),
     )
 
 returns-2 : tie.Need-returns-2 Inv-loop μ-loop
@@ -110,19 +95,16 @@ refusal-spec =
     Inv-loop
     μ-loop
     byte-requires
-    stride-requires
+    is-wide-requires
     loop-holds
     bad-requires
     returns
     zone-at-requires
-    add-z
-    loop-less
-    loop-again
     array-read-if3
     stood-before-requires
     array-write-seen
-    add-z-2
-    loop-less-2
-    loop-again-2
+    add-z
+    loop-less
+    loop-again
     returns-2
     returns-3)

@@ -11,10 +11,10 @@ use Rattle.board.proofs.zones.stood_before.Statement.{statement}
 use Rattle.board.proofs.zones.stood_before.Tie as tie
 
 abbrev Inv-loop : tie.InvT-loop
-Inv-loop bytes stride z carrier y₀ y = NoneYet (λ x. eqb (carrierIn bytes x) carrier) z y
+Inv-loop bytes wide z carrier y₀ y = NoneYet (λ x. eqb (carrierIn bytes x) carrier) z y
 
 abbrev μ-loop : tie.MeasureT-loop
-μ-loop bytes stride z carrier y₀ y = z - y
+μ-loop bytes wide z carrier y₀ y = z - y
 
 loop-holds : tie.Need-loop-holds Inv-loop μ-loop
 loop-holds c = none-first _ _

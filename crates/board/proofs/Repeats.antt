@@ -18,9 +18,9 @@ use Rattle.board.specs.declared.input.Zone.{Zone}
 use Rattle.board.specs.Inner.{ZoneAt, stoodBefore}
 use Rattle.board.proofs.Turns.{NoneYet}
 
--- the low byte of zone y's carrier is in the table, if there is a carrier
+-- the low byte of zone y's carrier is in the table, and that of a free zone too
 abbrev Marked : List ℕ → List Bool → ℕ → Type 0
-Marked b seen y = (carrierIn b y ≡ 0 → ⊥) → getD seen (carrierIn b y % 256) false ≡ true
+Marked b seen y = getD seen (carrierIn b y % 256) false ≡ true
 
 -- so for the zones before z
 pub record Seen (b : List ℕ) (seen : List Bool) (z : ℕ) : Type 0 where
@@ -34,7 +34,7 @@ module _ {b : List ℕ} {seen : List Bool} {z : ℕ} {r : Zone} (S : Seen b seen
   pub seen-next : Seen b (set seen (r .carrier % 256) true) (z + 1)
   seen-next = record {
     size = length-set seen (r .carrier % 256) true ∙ S .size;
-    marked = below-more (Marked b (set seen (r .carrier % 256) true)) z (λ y l n. kept y (S .marked y l n)) (λ n. at (carrierIn b z % 256) (sym low));
+    marked = below-more (Marked b (set seen (r .carrier % 256) true)) z (λ y l. kept y (S .marked y l)) (at (carrierIn b z % 256) (sym low));
   }
     where
       low : r .carrier % 256 ≡ carrierIn b z % 256
@@ -51,12 +51,12 @@ module _ {b : List ℕ} {seen : List Bool} {z : ℕ} {r : Zone} (S : Seen b seen
           go false e = getD-set-other seen (r .carrier % 256) (carrierIn b y % 256) true false (eqb-false (carrierIn b y % 256) (r .carrier % 256) e) ∙ m
 
   -- none before has the low byte, so none has the carrier
-  pub new-carrier : (r .carrier ≡ 0 → ⊥) → getD seen (r .carrier % 256) false ≡ false → false ≡ stoodBefore b (r .carrier) z
+  pub new-carrier : getD seen (r .carrier % 256) false ≡ false → false ≡ stoodBefore b (r .carrier) z
   unfolding stoodBefore
-  new-carrier n e = sym (below-any-false (λ y. eqb (carrierIn b y) (r .carrier)) z (λ y l. ne-eqb (carrierIn b y) (r .carrier) (other y l)))
+  new-carrier e = sym (below-any-false (λ y. eqb (carrierIn b y) (r .carrier)) z (λ y l. ne-eqb (carrierIn b y) (r .carrier) (other y l)))
     where
       other : (y : ℕ) → y < z → carrierIn b y ≡ r .carrier → ⊥
-      other y l q = true≢false (sym (S .marked y l (λ k. n (sym q ∙ k))) ∙ ap (λ (c : ℕ). getD seen (c % 256) false) q ∙ e)
+      other y l q = true≢false (sym (S .marked y l) ∙ ap (λ (c : ℕ). getD seen (c % 256) false) q ∙ e)
 
 -- going through the zones before z: one that has the carrier is met, or the end
 pub stood-met : {b : List ℕ} {c y z : ℕ} {r : Zone} → ZoneAt b y r → y < z → r .carrier ≡ c → true ≡ stoodBefore b c z

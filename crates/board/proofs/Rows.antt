@@ -34,20 +34,19 @@ module _ {b : List ℕ} {v : ℕ} (F : ByteAt b 2 v) where
   pub version-other : (v ≡ 1 → ⊥) → not (eqb v 2) ≡ wrongVersion b
   version-other n = sym (version-row ∙ simp (ne-eqb v 1 n))
 
+-- two more on both sides
+two-more : (x y : ℕ) → eqb (x + 2) (y + 6) ≡ eqb x (4 + y)
+two-more x y = go (eqb x (4 + y)) refl
+  where
+    go : (t : Bool) → eqb x (4 + y) ≡ t → eqb (x + 2) (y + 6) ≡ t
+    go true e = eq-eqb (x + 2) (y + 6) (let q : x ≡ 4 + y = eqb-true x (4 + y) e in omega arith)
+    go false e = ne-eqb (x + 2) (y + 6) (λ q. eqb-false x (4 + y) e (omega arith))
+
+-- L is right where the bytes of the zone after the last would begin at the end
 pub count-row : {b : List ℕ} {l m z k : ℕ} {w : Bool} → ByteAt b 0 l → ByteAt b 1 m → ByteAt b 5 z → w ≡ wide b → k ≡ stride w * z + 6 → not (eqb (256 * l + m + 2) k) ≡ wrongCount b
 unfolding wrongCount
-count-row {b} {l} {m} {z} {k} {w} L M Z W K =
-    ap₂ (λ (x y : ℕ). not (eqb x y)) (let e : 256 * l + m + 2 ≡ 256 * l + m + 2 = refl in e) K ∙
-    ap not (same-less (256 * l + m) (stride w * z)) ∙
-    rw (L .is, M .is, W, Z .is)
-  where
-    -- two more on both sides
-    same-less : (x y : ℕ) → eqb (x + 2) (y + 6) ≡ eqb x (4 + y)
-    same-less x y = go (eqb x (4 + y)) refl
-      where
-        go : (t : Bool) → eqb x (4 + y) ≡ t → eqb (x + 2) (y + 6) ≡ t
-        go true e = eq-eqb (x + 2) (y + 6) (let q : x ≡ 4 + y = eqb-true x (4 + y) e in omega arith)
-        go false e = ne-eqb (x + 2) (y + 6) (λ q. eqb-false x (4 + y) e (omega arith))
+count-row {l = l} {m} {z} {w = w} L M Z W K =
+    ap (λ (x : ℕ). not (eqb (256 * l + m + 2) x)) K ∙ ap not (two-more (256 * l + m) (stride w * z)) ∙ rw (L .is, M .is, W, Z .is)
 
 module _ {b : List ℕ} {p h z : ℕ} (P : ByteAt b 3 p) (H : ByteAt b 4 h) (Z : ByteAt b 5 z) where
   range-row : outOfRange b ≡ not (leb 2 p && (leb p 64 && (ltb h p && (leb 2 z && leb z 96))))

@@ -4,11 +4,10 @@ use Prim.Native.Nat.{ℕ, suc, _+_, _-_, _*_, _≤_, _<_}
 use native.Mathlib.Omega.{arith}
 use native.Mathlib.Nat.{mul-suc, mul-le-mul, mul-le-mul-left}
 use mathlib.Core.List.{List}
-use mathlib.Core.Path.{_≡_, refl, sym, _∙_, ap, ap₂}
+use mathlib.Core.Path.{_≡_, sym, _∙_, ap, ap₂}
 use mathlib.Core.Bool.{Bool, true, false, cond}
 use lib.ListN.{length}
 use Rattle.model.specs.Reading.{byte, twoBytes, wide, stride, zoneFrom, zonesSaid, carrierIn, headingIn}
-use Rattle.board.specs.declared.input.Zone.{Zone}
 use Rattle.board.specs.Inner.{ByteAt, Whole, ZoneIn, ZoneAt}
 
 pub five : {w : Bool} → w ≡ true → 5 ≡ stride w
@@ -47,29 +46,21 @@ module _ {b : List ℕ} {w : Bool} {z : ℕ} (I : ZoneIn b w z) where
 
   module _ {f : ℕ} (F : f ≡ stride w * z + 6) where
     -- the zone's bytes lie inside the board
-    pub zone-room : f + 4 ≤ length b
-    zone-room = omega (arith, zone-fits, stride-least w)
-      where
-        zone-fits : f + stride w ≤ length b
-        zone-fits =
-            omega (
-              arith,
-              I .whole,
-              ap (λ (n : ℕ). n * zonesSaid b) stride-is,
-              mul-suc (stride w) z,
-              mul-le-mul-left {m = suc z} {n = zonesSaid b} (stride w) (let i : z < zonesSaid b = I .inside in omega arith),
-            )
-
-    pub wide-room : w ≡ true → f + 5 ≤ length b
-    wide-room e =
+    zone-fits : f + stride w ≤ length b
+    zone-fits =
         omega (
           arith,
           I .whole,
           ap (λ (n : ℕ). n * zonesSaid b) stride-is,
           mul-suc (stride w) z,
-          five e,
           mul-le-mul-left {m = suc z} {n = zonesSaid b} (stride w) (let i : z < zonesSaid b = I .inside in omega arith),
         )
+
+    pub zone-room : f + 4 ≤ length b
+    zone-room = omega (arith, zone-fits, stride-least w)
+
+    pub wide-room : w ≡ true → f + 5 ≤ length b
+    wide-room e = omega (arith, zone-fits, five e)
 
     pub from-small : f ≤ 1281
     from-small = omega (arith, times-byte w (I .few))

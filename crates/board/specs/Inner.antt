@@ -1,7 +1,7 @@
 -- What the reader's inner functions say: of one byte, of a zone's bytes in either version, of two rows at a time, and of the ways and the points
 -- where two words start.
 -- Nothing outside this crate speaks of these.
-use Prim.Native.Nat.{ℕ, _+_, _*_, _≤_, _<_}
+use Prim.Native.Nat.{ℕ, _*_, _≤_, _<_}
 use mathlib.Core.List.{List, map}
 use mathlib.Core.Path.{_≡_}
 use lib.ListN.{length}

@@ -2,7 +2,6 @@
 use Prim.Native.Nat.{ℕ}
 use mathlib.Core.List.{List, [], _∷_}
 use mathlib.Core.Path.{_≡_, refl}
-use Rattle.model.specs.Track.{Track}
 use Rattle.model.specs.Labels.{parts, joinZones, joinPoints}
 use Rattle.model.specs.Position.{Position}
 use Rattle.model.specs.Reading.{trackSaid, positionSaid, stride, carrierIn, refusal, tooShort, wrongLength, wrongVersion, outOfRange, wrongCount, badZone, repeated, underTwo, apart}

@@ -9,7 +9,7 @@ use Rattle.model.specs.Reading.{versionSaid, refusal}
 use Rattle.rules.specs.Key.{turnedBack, keyIn, keyOfBy}
 use Rattle.rules.specs.Collapse.{collapseIn, collapseOf}
 use Rattle.rules.specs.Sheet.{markFor, markOfBy}
-use Rattle.versions.specs.Versions.{inVersion2, SaySame, SameInVersion2, SameAnswers, InBothVersions, AnswersBySaid, OneKey}
+use Rattle.versions.specs.Versions.{inVersion2, InBothVersions, AnswersBySaid, OneKey}
 use Rattle.versions.proofs.WideBytes.{say-same, wide-bytes}
 use Rattle.versions.proofs.WideRows.{wide-accepted}
 

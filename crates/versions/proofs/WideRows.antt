@@ -1,5 +1,5 @@
 -- The same board in version 2 is accepted: rows 1 to 5 by its head and its length, the others since it says the same as the board.
-use Prim.Native.Nat.{ℕ, _+_, _*_, _≤_, _<_}
+use Prim.Native.Nat.{ℕ, _+_, _*_, _<_}
 use native.Mathlib.Omega.{arith}
 use mathlib.Core.List.{List}
 use mathlib.Core.Path.{_≡_, refl, sym, _∙_, ap}
@@ -10,7 +10,7 @@ use borrow.Author.Tests.{le-ltb, eq-eqb}
 use Rattle.model.specs.Lists.{numbersBelow, anyOf, allOf, howMany}
 use Rattle.model.specs.Track.{Track}
 use Rattle.model.specs.Labels.{label, parts}
-use Rattle.model.specs.Reading.{lengthSaid, wide, stride, pointsSaid, homeSaid, zonesSaid, carrierIn, trackSaid, tooShort, wrongLength, wrongVersion, outOfRange, wrongCount, badZone, repeated, underTwo, apart, refusal}
+use Rattle.model.specs.Reading.{lengthSaid, wide, stride, pointsSaid, homeSaid, zonesSaid, carrierIn, tooShort, wrongLength, wrongVersion, outOfRange, wrongCount, badZone, repeated, underTwo, apart, refusal}
 use Rattle.model.proofs.ListLaws.{any-below-false, below-any-false, any-ext, mem-below}
 use Rattle.model.proofs.ReadingLaws.{NoRow, no-row, together}
 use Rattle.versions.specs.Versions.{inVersion2}

@@ -70,7 +70,7 @@ loop-again c =
           (λ k. k .4 ∙ again-met _ _ (repeated-met zone (k .0 .taken) (sym (k .3 .taken) ∙ k .2 .ensures)))
           (⊎-elim
           (λ k. k .4 ∙ again-none _ _ (inv .2) (repeated-new zone (sym (k .3 .left) ∙ k .2 .ensures)))
-          (λ k. k .1 ∙ again-none _ _ (inv .2) (⊎-elim (λ j. repeated-new zone (new-carrier (inv .1) zone (j .0 .taken) (j .1 .left))) (λ j. repeated-free zone (j .left)) (k .0 .came))))
+          (λ k. k .1 ∙ again-none _ _ (inv .2) (⊎-elim (λ j. repeated-new zone (new-carrier (inv .1) zone (j .1 .left))) (λ j. repeated-free zone (j .left)) (k .0 .came))))
           (c .if2 .came),
     )
 

@@ -1,16 +1,17 @@
 -- Filling an array from the front: what it holds after each store, and that at the end it is the board's list made long enough by zeros.
 -- The list is split at the place that is stored to.
-use Prim.Native.Nat.{ℕ, suc, _+_, _-_, _*_, _/_, _%_, _≤_, _<_}
+use Prim.Native.Nat.{ℕ, suc, _+_, _-_, _*_, _≤_, _<_}
 use native.Mathlib.Omega.{arith}
-use native.Mathlib.Nat.{add-zero}
 use native.Mathlib.Numerals.{add-one}
 use mathlib.Core.List.{List, [], _∷_, _++_, map, map-append, append-assoc}
 use mathlib.Core.Path.{_≡_, sym, _∙_, ap, ap₂}
 use lib.ListN.{length, set, replicate, length-map, length-append, length-replicate}
 use lib.Seq.{set-at}
 use Rattle.model.specs.Lists.{numbersBelow}
-use Rattle.model.specs.Reading.{byte, zoneFrom, trackSaid, positionSaid, zonesSaid, carrierIn, headingIn, endSaid}
+use Rattle.model.specs.Reading.{endA, endB, trackSaid, positionSaid, zonesSaid, carrierIn, headingIn, endSaid}
+use Rattle.model.specs.Track.{zoneOf}
 use Rattle.model.proofs.ListLaws.{length-below, below-suc}
+use Rattle.model.proofs.ReadingLaws.{said-a, said-b}
 use Rattle.board.specs.Given.{padded}
 use Rattle.board.specs.declared.input.Zone.{Zone}
 use Rattle.board.specs.Inner.{ByteAt, ZoneAt}
@@ -73,12 +74,10 @@ module _ {b : List ℕ} {n z : ℕ} (few : zonesSaid b ≤ 96) (N : ByteAt b 5 n
 -- the ends of a zone are where its two words start
 module _ {b : List ℕ} {z : ℕ} {r : Zone} (Z : ZoneAt b z r) where
   pub first-end : r .a ≡ endSaid b (2 * z)
-  first-end =
-      Z .a-is ∙ ap (byte b) (sym (add-zero (zoneFrom b z))) ∙
-      ap₂ (λ (y k : ℕ). byte b (zoneFrom b y + k)) (let e : z ≡ 2 * z / 2 = omega arith in e) (let e : 0 ≡ 2 * z % 2 = omega arith in e)
+  first-end = Z .a-is ∙ ap (endA b) (let e : z ≡ zoneOf (2 * z) = omega arith in e) ∙ sym (said-a b (2 * z) (omega arith))
 
   pub second-end : r .b ≡ endSaid b (2 * z + 1)
-  second-end = Z .b-is ∙ ap₂ (λ (y k : ℕ). byte b (zoneFrom b y + k)) (let e : z ≡ (2 * z + 1) / 2 = omega arith in e) (let e : 1 ≡ (2 * z + 1) % 2 = omega arith in e)
+  second-end = Z .b-is ∙ ap (endB b) (let e : z ≡ zoneOf (2 * z + 1) = omega arith in e) ∙ sym (said-b b (2 * z + 1) (omega arith))
 
 pub ends-next : {b e : List ℕ} {z : ℕ} {said : Zone} → e ≡ filled 192 (endSaid b) (2 * z) → ZoneAt b z said → z < 96 → set (set e (2 * z) (said .a)) (2 * z + 1) (said .b) ≡ filled 192 (endSaid b) (2 * (z + 1))
 ends-next {b} {e} {z} {said} h Z l =

@@ -1,14 +1,14 @@
 -- What an operation that read a board knows: its number is the refusal of its bytes, and where that is 0 the first words and zones of its
 -- arrays are the track and the position of its bytes, ready for what works on those. From what the reader promises.
-use Prim.Native.Nat.{ℕ, _*_, _≤_, _<_}
+use Prim.Native.Nat.{ℕ, _*_, _≤_}
 use native.Mathlib.Omega.{arith}
 use mathlib.Core.List.{List}
 use mathlib.Core.Path.{_≡_, sym, _∙_, ap, subst, subst₂}
-use lib.ListN.{length, getD, take}
+use lib.ListN.{length, take}
 use Rattle.model.specs.Track.{Track, trackOf}
 use Rattle.model.specs.Position.{Position}
 use Rattle.model.specs.Accepted.{Ready}
-use Rattle.model.specs.Reading.{zonesSaid, trackSaid, positionSaid, refusal}
+use Rattle.model.specs.Reading.{Bytes, zonesSaid, trackSaid, positionSaid, refusal}
 use Rattle.model.proofs.ReadingLaws.{no-row, in-range, length-ends, length-position, ready-said}
 use Rattle.board.specs.declared.Board.{Board}
 use Rattle.board.specs.Given.{headSaid, boardSaid, boardOf}
@@ -47,10 +47,6 @@ pub said : {b : List ℕ} {r : Board} → r ≡ boardOf b → r .number ≡ 0 �
 said {b} {r} e n =
     let k : refusal b ≡ 0 = sym (given-number b) ∙ ap (λ (s : Board). s .number) (sym e) ∙ n in
     subst (Said b) (sym (e ∙ given-said b k)) (said-board b k)
-
--- every number of the list is a byte
-abbrev pub Bytes : List ℕ → Type 0
-Bytes b = (i : ℕ) → getD b i 0 < 256
 
 pub number-read : (b : List ℕ) {r : Board} → r ≡ boardOf b → r .number ≡ refusal b
 number-read b e = ap (λ (s : Board). s .number) e ∙ given-number b

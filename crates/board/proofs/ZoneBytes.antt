@@ -8,6 +8,7 @@ use mathlib.Core.Path.{_≡_, sym, _∙_, ap, ap₂}
 use mathlib.Core.Bool.{Bool, true, false, cond}
 use lib.ListN.{length}
 use Rattle.model.specs.Reading.{byte, twoBytes, wide, stride, zoneFrom, zonesSaid, carrierIn, headingIn}
+use Rattle.model.proofs.ReadingLaws.{stride-most}
 use Rattle.board.specs.Inner.{ByteAt, Whole, ZoneIn, ZoneAt}
 
 pub five : {w : Bool} → w ≡ true → 5 ≡ stride w
@@ -23,11 +24,6 @@ unfolding stride
 stride-least true = omega arith
 stride-least false = omega arith
 
-stride-most : (w : Bool) → stride w ≤ 5
-unfolding stride
-stride-most true = omega arith
-stride-most false = omega arith
-
 -- so many zones have few bytes
 pub times-byte : (w : Bool) {n : ℕ} → n < 256 → stride w * n ≤ 1275
 times-byte w {n} l = mul-le-mul (stride-most w) (let g : n ≤ 255 = omega arith in g)
@@ -36,13 +32,9 @@ module _ {b : List ℕ} {w : Bool} {z : ℕ} (I : ZoneIn b w z) where
   stride-is : stride w ≡ stride (wide b)
   stride-is = ap stride (I .version)
 
-  one-byte : w ≡ false → carrierIn b z ≡ byte b (zoneFrom b z + 2)
+  carrier-by : (t : Bool) → w ≡ t → carrierIn b z ≡ cond t (twoBytes b (zoneFrom b z + 2)) (byte b (zoneFrom b z + 2))
   unfolding carrierIn
-  one-byte e = ap (λ (t : Bool). cond t (twoBytes b (zoneFrom b z + 2)) (byte b (zoneFrom b z + 2))) (sym (I .version) ∙ e)
-
-  two-bytes : w ≡ true → carrierIn b z ≡ twoBytes b (zoneFrom b z + 2)
-  unfolding carrierIn
-  two-bytes e = ap (λ (t : Bool). cond t (twoBytes b (zoneFrom b z + 2)) (byte b (zoneFrom b z + 2))) (sym (I .version) ∙ e)
+  carrier-by t e = ap (λ (t : Bool). cond t (twoBytes b (zoneFrom b z + 2)) (byte b (zoneFrom b z + 2))) (sym (I .version) ∙ e)
 
   module _ {f : ℕ} (F : f ≡ stride w * z + 6) where
     -- the zone's bytes lie inside the board
@@ -80,7 +72,7 @@ module _ {b : List ℕ} {w : Bool} {z : ℕ} (I : ZoneIn b w z) where
       zone-narrow e = record {
         a-is = A .is ∙ ap (byte b) from-is;
         b-is = B .is ∙ at-from 1;
-        carrier-is = C .is ∙ at-from 2 ∙ sym (one-byte e);
+        carrier-is = C .is ∙ at-from 2 ∙ sym (carrier-by false e);
         heading-is = D .is ∙ at-last 3 (four e);
         a-small = A .small;
         b-small = B .small;
@@ -94,7 +86,7 @@ module _ {b : List ℕ} {w : Bool} {z : ℕ} (I : ZoneIn b w z) where
         b-is = B .is ∙ at-from 1;
         carrier-is =
             ap₂ (λ (m n : ℕ). 256 * m + n) (C .is ∙ at-from 2) (D .is ∙ at-from 3 ∙ ap (byte b) (let d : zoneFrom b z + 3 ≡ zoneFrom b z + 2 + 1 = omega arith in d)) ∙
-            sym (two-bytes e);
+            sym (carrier-by true e);
         heading-is = H .is ∙ at-last 4 (five e);
         a-small = A .small;
         b-small = B .small;

@@ -13,7 +13,7 @@ use Rattle.model.proofs.BoolLaws.{decided}
 use Rattle.model.specs.Lists.{Ascending}
 use Rattle.model.specs.Track.{Track}
 use Rattle.model.specs.Position.{Position, outs}
-use Rattle.model.specs.Reading.{refusal, trackSaid, positionSaid}
+use Rattle.model.specs.Reading.{Bytes, refusal, trackSaid, positionSaid}
 use Rattle.rules.specs.Routes.{Blocked}
 use Rattle.rules.specs.Key.{KeyAnswer, keyForBy, named}
 use Rattle.rules.specs.Collapse.{CollapseAnswer, collapseIn, collapseOf}
@@ -28,7 +28,7 @@ use Rattle.exam.specs.Operations.{CollapsePromise}
 use Rattle.exam.proofs.CollapseLaws.{collapse-short, named-counted, named-written}
 use Rattle.exam.proofs.KeyLaws.{key-drawn}
 use Rattle.model.proofs.ReadingLaws.{ready-said}
-use Rattle.board.proofs.ReadBoard.{trackRead, positionRead, Said, Bytes, number-read}
+use Rattle.board.proofs.ReadBoard.{trackRead, positionRead, Said, number-read}
 
 module _ (b : List ℕ) (room : ℕ) where
   by-refusal : Bool → CollapseAnswer

@@ -10,7 +10,7 @@ use Rattle.model.specs.Lists.{overwritten}
 use Rattle.model.specs.declared.Summary.{Summary}
 use Rattle.model.specs.Track.{Track}
 use Rattle.model.specs.Position.{Position}
-use Rattle.model.specs.Reading.{refusal, trackSaid, positionSaid}
+use Rattle.model.specs.Reading.{Bytes, refusal, trackSaid, positionSaid}
 use Rattle.rules.specs.Routes.{Blocked}
 use Rattle.rules.specs.Key.{KeyAnswer, turnsBack, keyFor, keyForBy, keyIn, keyOf}
 use Rattle.alone.specs.HowManyBlocked.{TwoBlocked}
@@ -25,7 +25,7 @@ use Rattle.exam.specs.Parsed.{KeyGiven, summaryOf}
 use Rattle.exam.specs.Operations.{Drawn, KeyPromise}
 use Rattle.exam.proofs.KeyLaws.{refused-turns-back, key-refused, key-read, key-drawn}
 use Rattle.model.proofs.ReadingLaws.{accepted-track, ready-said}
-use Rattle.board.proofs.ReadBoard.{trackRead, positionRead, Said, Bytes, number-read}
+use Rattle.board.proofs.ReadBoard.{trackRead, positionRead, Said, number-read}
 
 -- what is said of a board that is turned back
 pub summary-turned-back : (b : List ℕ) {r : Board} → r ≡ boardOf b → (r .number ≡ 0 → ⊥) → _≡_ {A = Summary} (record { points = 0; zones = 0; out = 0 }) (summaryOf (trackSaid b) (positionSaid b) (r .number))

@@ -8,14 +8,14 @@ use mathlib.Core.Logic.{_↔_}
 use borrow.Author.Tests.{eq-eqb, ne-eqb}
 use Rattle.model.specs.Track.{Track}
 use Rattle.model.specs.Position.{Position}
-use Rattle.model.specs.Reading.{refusal, trackSaid, positionSaid}
+use Rattle.model.specs.Reading.{Bytes, refusal, trackSaid, positionSaid}
 use Rattle.rules.specs.Sheet.{Right, markFor, markOf, markOfBy}
 use Rattle.marking.proofs.SheetMarked.{marked-right}
 use Rattle.board.specs.declared.Board.{Board}
 use Rattle.board.specs.Given.{boardOf}
 use Rattle.exam.specs.Operations.{MarkPromise}
 use Rattle.model.proofs.ReadingLaws.{ready-said}
-use Rattle.board.proofs.ReadBoard.{trackRead, positionRead, Said, Bytes, number-read}
+use Rattle.board.proofs.ReadBoard.{trackRead, positionRead, Said, number-read}
 
 module _ (b sheet : List ℕ) where
   by-refusal : Bool → ℕ

@@ -38,8 +38,8 @@ fn more_numbers(numbers: &mut [u16], n: usize, c: u8) -> usize {
     if numbers.len() <= i {
         return n;
     }
-    let d = digit(c);
-    numbers[i] = numbers[i] % 6000 * 10 + d as u16;
+    let longer = (numbers[i] % 6554) as u32 * 10 + digit(c) as u32;
+    numbers[i] = (longer % 65536) as u16;
     n
 }
 

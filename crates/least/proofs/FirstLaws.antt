@@ -4,10 +4,10 @@ use Prim.Native.Nat.{ℕ, _≤_, _<_}
 use mathlib.Core.Path.{_≡_, refl, _∙_, ap, ap₂}
 use mathlib.Core.Logic.{_⊎_, inl, inr}
 use mathlib.Core.List.{List, [], _∷_, List·Memᴰ, List·Memᴰ·head, List·Memᴰ·tail, List·Memᴰ·not-nil, List·Memᴰ·cases-cons}
-use mathlib.Core.Bool.{Bool, true, false, _||_}
+use mathlib.Core.Bool.{Bool, true, false}
 use mathlib.Core.Option.{Option, none, some, Option·some-injective}
 use native.Mathlib.Omega.{arith}
-use Rattle.model.specs.Lists.{thisElse, anyOf, first, numbersBelow, Ascending}
+use Rattle.model.specs.Lists.{thisElse, first, numbersBelow, Ascending}
 use Rattle.model.proofs.BoolLaws.{both-ways}
 use Rattle.model.proofs.ListLaws.{first-none, first-below, below-first, first-below-none}
 
@@ -24,10 +24,6 @@ module _ {A : Type 0} where
   pub first-ext : (f g : A → Bool) (l : List A) → ((x : A) → List·Memᴰ x l → f x ≡ g x) → first f l ≡ first g l
   first-ext f g [] h = refl
   first-ext f g (a ∷ l) h = ap₂ (λ (t : Bool) (o : Option A). thisElse t a o) (h a (List·Memᴰ·head refl)) (first-ext f g l (λ x m. h x (List·Memᴰ·tail m)))
-
-  pub any-ext : (f g : A → Bool) (l : List A) → ((x : A) → List·Memᴰ x l → f x ≡ g x) → anyOf f l ≡ anyOf g l
-  any-ext f g [] h = refl
-  any-ext f g (a ∷ l) h = ap₂ (λ (s t : Bool). s || t) (h a (List·Memᴰ·head refl)) (any-ext f g l (λ x m. h x (List·Memᴰ·tail m)))
 
 -- of an ascending list the first that passes is the least
 pub first-ascending : (f : ℕ → Bool) (l : List ℕ) → Ascending l → {x y : ℕ} → first f l ≡ some x → List·Memᴰ y l → f y ≡ true → x ≤ y

@@ -8,9 +8,9 @@ use mathlib.Core.Option.{Option, none, some, Option·map}
 use native.Mathlib.Omega.{arith}
 use Rattle.model.specs.Lists.{numbersBelow, first}
 use Rattle.model.proofs.BoolLaws.{not-true-false, both-ways}
-use Rattle.model.proofs.ListLaws.{true-any, first-some, first-below}
+use Rattle.model.proofs.ListLaws.{true-any, any-ext, first-some, first-below}
 use Rattle.rules.specs.Search.{followed, goalIn, wordsTo, leastFrom}
-use Rattle.least.proofs.FirstLaws.{first-ext, any-ext, first-agrees}
+use Rattle.least.proofs.FirstLaws.{first-ext, first-agrees}
 
 module _ (nexts shut : ℕ → List ℕ) (goal : ℕ → Bool) (same : (w : ℕ) → goal w ≡ false → shut w ≡ nexts w) where
   -- fewer than k words after w don't end at a goal

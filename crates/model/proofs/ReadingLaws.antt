@@ -6,14 +6,15 @@ use mathlib.Core.Logic.{_⊎_, inl, inr, ⊎-elim}
 use mathlib.Core.List.{List}
 use mathlib.Core.Bool.{Bool, true, false, cond, not, _&&_, _||_, true≢false}
 use native.Mathlib.Omega.{arith}
-use lib.ListN.{length, getD, length-map, List·getD-eq-default}
+use native.Mathlib.Nat.{mul-le-mul}
+use lib.ListN.{length, length-map, List·getD-eq-default}
 use lib.Dec.{leb, ltb, eqb}
 use borrow.Author.Tests.{ltb-true, ltb-false, leb-true, eqb-true, eqb-false, eq-eqb, ne-eqb, not-true, not-false}
 use Rattle.model.specs.Lists.{numbersBelow, anyOf, allOf, howMany}
 use Rattle.model.specs.Track.{zoneOf, headingOf, start}
 use Rattle.model.specs.Position.{at, Stands, Once}
 use Rattle.model.specs.Labels.{label, parts}
-use Rattle.model.specs.Reading.{byte, wide, zoneFrom, endSaid, pointsSaid, homeSaid, zonesSaid, endA, endB, carrierIn, headingIn, trackSaid, positionSaid, tooShort, wrongLength, wrongVersion, outOfRange, wrongCount, badZone, repeated, underTwo, apart, refusal}
+use Rattle.model.specs.Reading.{byte, Bytes, wide, stride, zoneFrom, lengthSaid, endSaid, pointsSaid, homeSaid, zonesSaid, endA, endB, carrierIn, headingIn, trackSaid, positionSaid, tooShort, wrongLength, wrongVersion, outOfRange, wrongCount, badZone, repeated, underTwo, apart, refusal}
 use Rattle.model.specs.Accepted.{HangsTogether, AcceptedTrack, Laid, heldLimit, Limited, Ready}
 use Rattle.model.proofs.BoolLaws.{both-ways, decided, and-left, and-right, and-both, or-false-left, or-false-right}
 use Rattle.model.proofs.ListLaws.{length-below, any-below-false, below-any, all-below, all-below-false}
@@ -41,9 +42,9 @@ cond-taken : (t : Bool) → _≡_ {A = ℕ} (cond t 9 0) 9 → t ≡ true
 cond-taken true e = refl
 cond-taken false e = absurd (let h : _≡_ {A = ℕ} 0 9 = e in omega arith)
 
-cond-small : (t : Bool) (k x : ℕ) → k ≤ 9 → x ≤ 9 → cond t k x ≤ 9
-cond-small true k x h i = h
-cond-small false k x h i = i
+cond-most : (t : Bool) (k x : ℕ) {n : ℕ} → k ≤ n → x ≤ n → cond t k x ≤ n
+cond-most true k x h i = h
+cond-most false k x h i = i
 
 module _ (b : List ℕ) where
   row9 : ℕ
@@ -113,15 +114,15 @@ module _ (b : List ℕ) where
   pub refusal-small : refusal b ≤ 9
   unfolding refusal
   refusal-small =
-      cond-small (tooShort b) 1 _ (omega arith)
-      (cond-small (wrongLength b) 2 _ (omega arith)
-      (cond-small (wrongVersion b) 3 _ (omega arith)
-      (cond-small (outOfRange b) 4 _ (omega arith)
-      (cond-small (wrongCount b) 5 _ (omega arith)
-      (cond-small (anyOf (badZone b) (numbersBelow (zonesSaid b))) 6 _ (omega arith)
-      (cond-small (anyOf (repeated b) (numbersBelow (zonesSaid b))) 7 _ (omega arith)
-      (cond-small (anyOf (underTwo b) (numbersBelow (pointsSaid b))) 8 _ (omega arith)
-      (cond-small (apart b) 9 0 (omega arith) (omega arith)))))))))
+      cond-most (tooShort b) 1 _ (omega arith)
+      (cond-most (wrongLength b) 2 _ (omega arith)
+      (cond-most (wrongVersion b) 3 _ (omega arith)
+      (cond-most (outOfRange b) 4 _ (omega arith)
+      (cond-most (wrongCount b) 5 _ (omega arith)
+      (cond-most (anyOf (badZone b) (numbersBelow (zonesSaid b))) 6 _ (omega arith)
+      (cond-most (anyOf (repeated b) (numbersBelow (zonesSaid b))) 7 _ (omega arith)
+      (cond-most (anyOf (underTwo b) (numbersBelow (pointsSaid b))) 8 _ (omega arith)
+      (cond-most (apart b) 9 0 (omega arith) (omega arith)))))))))
 
 -- row 4
 pub record InRange (b : List ℕ) : Type 0 where
@@ -228,19 +229,20 @@ module _ (b : List ℕ) where
   unfolding trackSaid
   start-said w h = getD-map-below (endSaid b) (2 * zonesSaid b) w 0 h
 
+  -- a word starts at end A of its zone, or at end B
+  pub said-a : (w : ℕ) → headingOf w ≡ 0 → endSaid b w ≡ endA b (zoneOf w)
+  said-a w e = ap (byte b) (let s : zoneFrom b (w / 2) + w % 2 ≡ zoneFrom b (zoneOf w) = omega arith in s)
+
+  pub said-b : (w : ℕ) → headingOf w ≡ 1 → endSaid b w ≡ endB b (zoneOf w)
+  said-b w e = ap (byte b) (let s : zoneFrom b (w / 2) + w % 2 ≡ zoneFrom b (zoneOf w) + 1 = omega arith in s)
+
   pub start-a : (w : ℕ) → w < 2 * zonesSaid b → headingOf w ≡ 0 → start (trackSaid b) w ≡ endA b (zoneOf w)
-  start-a w h e = start-said w h ∙ ap (byte b) s
-    where
-      s : zoneFrom b (w / 2) + w % 2 ≡ zoneFrom b (zoneOf w)
-      s = omega arith
+  start-a w h e = start-said w h ∙ said-a w e
 
   pub start-b : (w : ℕ) → w < 2 * zonesSaid b → headingOf w ≡ 1 → start (trackSaid b) w ≡ endB b (zoneOf w)
-  start-b w h e = start-said w h ∙ ap (byte b) s
-    where
-      s : zoneFrom b (w / 2) + w % 2 ≡ zoneFrom b (zoneOf w) + 1
-      s = omega arith
+  start-b w h e = start-said w h ∙ said-b w e
 
-  heading-cases : (w : ℕ) → (headingOf w ≡ 0) ⊎ (headingOf w ≡ 1)
+  pub heading-cases : (w : ℕ) → (headingOf w ≡ 0) ⊎ (headingOf w ≡ 1)
   heading-cases w = go (decided (eqb (headingOf w) 0))
     where
       go : (eqb (headingOf w) 0 ≡ true) ⊎ (eqb (headingOf w) 0 ≡ false) → (headingOf w ≡ 0) ⊎ (headingOf w ≡ 1)
@@ -274,13 +276,9 @@ start-in b zones w h = go (heading-cases b w)
     go (inr e) = rw (start-b b w h e) (good .b-in)
 
 -- a carrier has one byte or two
-pub carrier-small : (b : List ℕ) → ((i : ℕ) → getD b i 0 < 256) → (z : ℕ) → carrierIn b z < 65536
+pub carrier-most : (b : List ℕ) → Bytes b → (z : ℕ) → carrierIn b z ≤ 65535
 unfolding carrierIn
-carrier-small b bytes z = either (wide b) (omega (arith, bytes (zoneFrom b z + 2), bytes (zoneFrom b z + 2 + 1))) (omega (arith, bytes (zoneFrom b z + 2)))
-  where
-    either : (t : Bool) {x y n : ℕ} → x < n → y < n → cond t x y < n
-    either true h k = h
-    either false h k = k
+carrier-most b bytes z = cond-most (wide b) _ _ (omega (arith, bytes (zoneFrom b z + 2), bytes (zoneFrom b z + 2 + 1))) (omega (arith, bytes (zoneFrom b z + 2)))
 
 module _ (b : List ℕ) (n : NoRow b) where
   -- the carrier of a standing is that of its zone
@@ -350,13 +348,13 @@ module _ (b : List ℕ) (n : NoRow b) where
       ls : List ℕ
       ls = parts (trackSaid b) (λ z. true)
 
-  limited-said : ((i : ℕ) → getD b i 0 < 256) → Limited (positionSaid b)
+  limited-said : Bytes b → Limited (positionSaid b)
   limited-said bytes z = go (zone-inside z)
     where
       go : (z < zonesSaid b) ⊎ (zonesSaid b ≤ z) → at (positionSaid b) z < heldLimit
       go (inl h) =
           let q : at (positionSaid b) z ≡ 2 * carrierIn b z + headingIn b z = at-said b z h in
-          let k : carrierIn b z < 65536 = carrier-small b bytes z in
+          let k : carrierIn b z ≤ 65535 = carrier-most b bytes z in
           let g : headingIn b z ≤ 1 = good-zone b (n .zones) z h .heading in
           omega arith
       go (inr h) = let q : at (positionSaid b) z ≡ 0 = at-past b z h in omega arith
@@ -378,11 +376,24 @@ accepted-track b e =
     }
 
 -- and its position is ready for the operations
-pub ready-said : (b : List ℕ) → ((i : ℕ) → getD b i 0 < 256) → refusal b ≡ 0 → Ready (trackSaid b) (positionSaid b)
+pub ready-said : (b : List ℕ) → Bytes b → refusal b ≡ 0 → Ready (trackSaid b) (positionSaid b)
 ready-said b bytes e =
     let n : NoRow b = no-row b e in
     let a : AcceptedTrack (trackSaid b) = accepted-track b e in
     record { bounded = record { laid = laid-said b n; points-most = a .points-most; zones-most = a .zones-most; ends-count = a .ends-count }; limited = limited-said b n bytes }
+
+-- how many bytes a zone has, and so how many an accepted board has
+pub stride-most : (w : Bool) → stride w ≤ 5
+unfolding stride
+stride-most w = cond-most w 5 4 (omega arith) (omega arith)
+
+pub accepted-length : (b : List ℕ) → refusal b ≡ 0 → length b ≤ 486
+unfolding wrongLength wrongCount
+accepted-length b e =
+    let n : NoRow b = no-row b e in
+    let l : lengthSaid b + 2 ≡ length b = eqb-true (lengthSaid b + 2) (length b) (not-false _ (n .length-said)) in
+    let k : lengthSaid b ≡ 4 + stride (wide b) * zonesSaid b = eqb-true (lengthSaid b) (4 + stride (wide b) * zonesSaid b) (not-false _ (n .zone-count)) in
+    omega (arith, mul-le-mul (stride-most (wide b)) (in-range b (n .range) .zones-most))
 
 -- 9 is given only where some two points are not linked
 pub apart-nine : (b : List ℕ) → refusal b ≡ 9 → HangsTogether (trackSaid b) → ⊥

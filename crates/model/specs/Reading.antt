@@ -1,6 +1,6 @@
 -- The board in bytes, in version 1 or 2: the refusals 1 to 9 in rising order, or a track with a first position. Versions differ in where the
 -- bytes of a zone are and in how many a carrier has; what is read of them here is one form, and nothing else speaks of a version.
-use Prim.Native.Nat.{ℕ, _+_, _-_, _*_, _/_, _%_}
+use Prim.Native.Nat.{ℕ, _+_, _-_, _*_, _/_, _%_, _<_}
 use mathlib.Core.List.{List, map}
 use mathlib.Core.Bool.{Bool, true, cond, not, _&&_, _||_}
 use lib.ListN.{length, getD}
@@ -17,6 +17,10 @@ stride wide = cond wide 5 4
 module _ (b : List ℕ) where
   abbrev pub byte : ℕ → ℕ
   byte i = getD b i 0
+
+  -- every number of the list is a byte
+  abbrev pub Bytes : Type 0
+  Bytes = (i : ℕ) → byte i < 256
 
   -- two bytes from a place on, big-endian
   abbrev pub twoBytes : ℕ → ℕ

@@ -10,14 +10,13 @@ use borrow.Author.Tests.{eqb-true}
 use lib.ListN.{length}
 use lib.Dec.{ltb, eqb}
 use Rattle.model.specs.Position.{outs}
-use Rattle.model.specs.Reading.{refusal, trackSaid, positionSaid}
+use Rattle.model.specs.Reading.{Bytes, refusal, trackSaid, positionSaid}
 use Rattle.model.proofs.ReadingLaws.{ready-said}
 use Rattle.rules.specs.Key.{KeyAnswer, turnedBack, keyFor, keyForBy, keyInBy, keyOf, keyOfBy}
 use Rattle.rules.specs.Collapse.{CollapseAnswer, left, collapseIn, collapseOf}
 use Rattle.order.proofs.Sizes.{plan-room, named-most}
 use Rattle.blocking.proofs.SameList.{collapse-same}
 use Rattle.exam.proofs.ReadyLaws.{few-out, room-small}
-use Rattle.board.proofs.ReadBoard.{Bytes}
 
 module _ (b : List ℕ) where
   -- what holds of what is turned back and of the key of an accepted board holds of every key

@@ -8,6 +8,7 @@ use borrow.Author.Tests.{lt-ltb, le-ltb, eq-eqb, ne-eqb}
 use lib.ListN.{length, take}
 use Rattle.model.specs.declared.Summary.{Summary}
 use Rattle.model.specs.Reading.{refusal, trackSaid, positionSaid}
+use Rattle.model.proofs.ReadingLaws.{accepted-length}
 use Rattle.rules.specs.Routes.{Entry}
 use Rattle.rules.specs.Key.{planWords}
 use Rattle.page.specs.Page.{refusedPage, tooLongPage, pageFor, pageOf, LONGEST, PAGE}
@@ -36,3 +37,7 @@ module _ (b : List ℕ) where
   pub page-right : length b ≤ LONGEST → refusal b ≡ 0 → pageOf b ≡ pageFor (trackSaid b) (positionSaid b)
   unfolding pageOf
   page-right short right = rw (le-ltb LONGEST (length b) short, eq-eqb (refusal b) 0 right)
+
+  -- no accepted board is too long: its page goes by what its bytes say, and is the same in both versions
+  pub page-accepted : refusal b ≡ 0 → pageOf b ≡ pageFor (trackSaid b) (positionSaid b)
+  page-accepted right = page-right (accepted-length b right) right

@@ -12,11 +12,10 @@ use Rattle.model.specs.declared.Summary.{Summary}
 use Rattle.model.specs.Track.{Track}
 use Rattle.model.specs.Position.{Position, outs}
 use Rattle.model.specs.Accepted.{Ready}
-use Rattle.model.specs.Reading.{refusal, trackSaid, positionSaid}
+use Rattle.model.specs.Reading.{Bytes, refusal, trackSaid, positionSaid}
 use Rattle.model.proofs.ReadingLaws.{refusal-small, ready-said}
 use Rattle.rules.specs.Key.{KeyAnswer, turnsBack, run, named, verdictOf, planWords, keyFor, keyForBy, keyOf}
 use Rattle.order.proofs.Sizes.{plan-room, named-most}
-use Rattle.board.proofs.ReadBoard.{Bytes}
 use Rattle.page.specs.Page.{keyPage, refusedPage, pageFor, pageOf, LONGEST, PAGE}
 use Rattle.page.specs.Writing.{entriesIn, Begins, Writable}
 use Rattle.page.proofs.PlanLaws.{entries-in-plan}

@@ -8,7 +8,7 @@ use native.Mathlib.Omega.{arith}
 use borrow.Author.Tests.{leb-true, leb-false}
 use lib.ListN.{length}
 use lib.Dec.{leb}
-use Rattle.board.proofs.ReadBoard.{Bytes}
+use Rattle.model.specs.Reading.{Bytes}
 use Rattle.page.specs.Page.{tooLongPage, pageOf, LONGEST, PAGE}
 use Rattle.page.specs.Writing.{Begins}
 use Rattle.page.proofs.Callers.{page-too-long}

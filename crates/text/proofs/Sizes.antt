@@ -17,7 +17,7 @@ use Rattle.page.proofs.Bound.{SmallEntry, SmallPage, page-of-fits}
 use Rattle.model.specs.Accepted.{Ready}
 use Rattle.exam.proofs.ReadyLaws.{few-out}
 use Rattle.model.proofs.ReadingLaws.{ready-said}
-use Rattle.board.proofs.ReadBoard.{Bytes}
+use Rattle.model.specs.Reading.{Bytes}
 
 verdict-small : (l : List ℕ) → verdictOf l < 1000
 verdict-small [] = omega arith

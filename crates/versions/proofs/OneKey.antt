@@ -31,4 +31,4 @@ answers-by-said b d e f s =
     }
 
 pub one-key : OneKey
-one-key b e = let w = in-both-versions b e in answers-by-said b (inVersion2 b) e (w .accepted) (record { track = sym (w .same .track); position = sym (w .same .position) })
+one-key b e = let w = in-both-versions b e in answers-by-said b (inVersion2 b) e (w .accepted) (w .same)

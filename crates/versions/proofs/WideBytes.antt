@@ -5,27 +5,18 @@ use native.Mathlib.Omega.{arith}
 use native.Mathlib.Nat.{add-zero}
 use mathlib.Core.List.{List, [], _∷_, map, flatten}
 use mathlib.Core.Path.{_≡_, refl, sym, _∙_, ap, ap₂}
-use mathlib.Core.Bool.{Bool, true, false}
+use mathlib.Core.Logic.{_⊎_, inl, inr}
 use lib.ListN.{length, getD}
 use lib.Seq.{getD-append-add}
-use lib.Dec.{eqb}
-use borrow.Author.Tests.{eqb-true, eqb-false}
 use Rattle.model.specs.Lists.{numbersBelow}
-use Rattle.model.specs.Reading.{byte, twoBytes, wide, stride, zoneFrom, pointsSaid, homeSaid, zonesSaid, endA, endB, carrierIn, headingIn, endSaid, trackSaid, positionSaid}
+use Rattle.model.specs.Track.{zoneOf, headingOf}
+use Rattle.model.specs.Reading.{byte, Bytes, twoBytes, wide, stride, zoneFrom, pointsSaid, homeSaid, zonesSaid, endA, endB, carrierIn, headingIn, endSaid, trackSaid, positionSaid}
 use Rattle.model.proofs.ListLaws.{length-below, getD-below, mem-below}
 use Rattle.model.proofs.PlaceLaws.{map-ext}
 use Rattle.model.proofs.WordLaws.{zone-below}
-use Rattle.model.proofs.ReadingLaws.{carrier-small}
+use Rattle.model.proofs.ReadingLaws.{carrier-most, heading-cases, said-a, said-b}
 use Rattle.versions.specs.Versions.{wideZone, wideLength, inVersion2, SaySame}
 use Rattle.versions.proofs.Fives.{length-fives, getD-fives, small-fives}
-
--- the point where a word starts is one of its zone's ends, on any board
-module _ (d : List ℕ) (v : ℕ) where
-  first-end : v % 2 ≡ 0 → endSaid d v ≡ endA d (v / 2)
-  first-end e = ap (λ (k : ℕ). byte d (zoneFrom d (v / 2) + k)) e ∙ ap (byte d) (add-zero (zoneFrom d (v / 2)))
-
-  second-end : v % 2 ≡ 1 → endSaid d v ≡ endB d (v / 2)
-  second-end e = ap (λ (k : ℕ). byte d (zoneFrom d (v / 2) + k)) e
 
 module _ (b : List ℕ) where
   pub length-wide : length (inVersion2 b) ≡ 6 + 5 * zonesSaid b
@@ -74,38 +65,38 @@ module _ (b : List ℕ) where
         omega arith
 
   wide-end : (v : ℕ) → v < 2 * zonesSaid b → endSaid (inVersion2 b) v ≡ endSaid b v
-  wide-end v l = go (eqb (v % 2) 0) refl
+  wide-end v l = go (heading-cases b v)
     where
-      inside : v / 2 < zonesSaid b
+      inside : zoneOf v < zonesSaid b
       inside = zone-below (zonesSaid b) v l
 
-      go : (t : Bool) → eqb (v % 2) 0 ≡ t → endSaid (inVersion2 b) v ≡ endSaid b v
-      go true e = let q = eqb-true (v % 2) 0 e in first-end (inVersion2 b) v q ∙ wide-a (v / 2) inside ∙ sym (first-end b v q)
-      go false e = let n = eqb-false (v % 2) 0 e in let q : v % 2 ≡ 1 = omega arith in second-end (inVersion2 b) v q ∙ wide-b (v / 2) inside ∙ sym (second-end b v q)
+      go : (headingOf v ≡ 0) ⊎ (headingOf v ≡ 1) → endSaid (inVersion2 b) v ≡ endSaid b v
+      go (inl e) = said-a (inVersion2 b) v e ∙ wide-a (zoneOf v) inside ∙ sym (said-a b v e)
+      go (inr e) = said-b (inVersion2 b) v e ∙ wide-b (zoneOf v) inside ∙ sym (said-b b v e)
 
   ends-same : map (endSaid (inVersion2 b)) (numbersBelow (2 * zonesSaid b)) ≡ map (endSaid b) (numbersBelow (2 * zonesSaid b))
   ends-same = map-ext (endSaid (inVersion2 b)) (endSaid b) (numbersBelow (2 * zonesSaid b)) (λ v m. wide-end v (mem-below (2 * zonesSaid b) m))
 
-  pub say-same : SaySame (inVersion2 b) b
+  pub say-same : SaySame b (inVersion2 b)
   unfolding trackSaid positionSaid inVersion2
   say-same = record {
-    track = λ i. record { points = pointsSaid b; home = homeSaid b; zones = zonesSaid b; ends = ends-same i };
+    track = λ i. record { points = pointsSaid b; home = homeSaid b; zones = zonesSaid b; ends = sym ends-same i };
     position =
-        map-ext (λ z. 2 * carrierIn (inVersion2 b) z + headingIn (inVersion2 b) z) (λ z. 2 * carrierIn b z + headingIn b z) (numbersBelow (zonesSaid b))
-        (λ z m. let l = mem-below (zonesSaid b) m in ap₂ (λ (c h : ℕ). 2 * c + h) (wide-carrier z l) (wide-heading z l));
+        map-ext (λ z. 2 * carrierIn b z + headingIn b z) (λ z. 2 * carrierIn (inVersion2 b) z + headingIn (inVersion2 b) z) (numbersBelow (zonesSaid b))
+        (λ z m. let l = mem-below (zonesSaid b) m in sym (ap₂ (λ (c h : ℕ). 2 * c + h) (wide-carrier z l) (wide-heading z l)));
   }
 
   -- it is made of bytes where the board is
-  module _ (bytes : (i : ℕ) → byte b i < 256) where
+  module _ (bytes : Bytes b) where
     zone-bytes : (z k : ℕ) → getD (wideZone b z) k 0 < 256
     zone-bytes z zero = bytes (zoneFrom b z)
     zone-bytes z (suc zero) = bytes (zoneFrom b z + 1)
-    zone-bytes z (suc (suc zero)) = omega (arith, carrier-small b bytes z)
+    zone-bytes z (suc (suc zero)) = omega (arith, carrier-most b bytes z)
     zone-bytes z (suc (suc (suc zero))) = omega arith
     zone-bytes z (suc (suc (suc (suc zero)))) = bytes (zoneFrom b z + (stride (wide b) - 1))
     zone-bytes z (suc (suc (suc (suc (suc k))))) = omega arith
 
-    pub wide-bytes : (i : ℕ) → byte (inVersion2 b) i < 256
+    pub wide-bytes : Bytes (inVersion2 b)
     unfolding inVersion2
     wide-bytes zero = omega (arith, bytes 5)
     wide-bytes (suc zero) = omega arith

@@ -64,14 +64,14 @@ module _ (b : List ℕ) where
 
     under-same : (p : ℕ) → underTwo (inVersion2 b) p ≡ underTwo b p
     unfolding underTwo inVersion2
-    under-same p = ap (λ (t : Track). not (eqb p (homeSaid b)) && ltb (howMany (eqb p) (t .ends)) 2) (say-same b .track)
+    under-same p = ap (λ (t : Track). not (eqb p (homeSaid b)) && ltb (howMany (eqb p) (t .ends)) 2) (sym (say-same b .track))
 
     row-8 : anyOf (underTwo (inVersion2 b)) (numbersBelow (pointsSaid b)) ≡ false
     row-8 = below-any-false (underTwo (inVersion2 b)) (pointsSaid b) (λ p l. under-same p ∙ any-below-false (underTwo b) (pointsSaid b) (n .two-each) p l)
 
   apart-same : apart (inVersion2 b) ≡ apart b
   unfolding apart inVersion2
-  apart-same = ap (λ (t : Track). not (allOf (λ p. eqb (label (parts t (λ z. true)) p) (label (parts t (λ z. true)) (homeSaid b))) (numbersBelow (pointsSaid b)))) (say-same b .track)
+  apart-same = ap (λ (t : Track). not (allOf (λ p. eqb (label (parts t (λ z. true)) p) (label (parts t (λ z. true)) (homeSaid b))) (numbersBelow (pointsSaid b)))) (sym (say-same b .track))
 
   pub wide-accepted : refusal b ≡ 0 → refusal (inVersion2 b) ≡ 0
   unfolding refusal inVersion2

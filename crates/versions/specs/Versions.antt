@@ -1,10 +1,10 @@
 -- A board in both versions gets one key (request i of document 02): the same board in version 2 is accepted and says the same, and boards that
 -- say the same get the same answers. Nothing past what a board says depends on its version.
-use Prim.Native.Nat.{ℕ, _+_, _*_, _/_, _%_, _<_}
+use Prim.Native.Nat.{ℕ, _+_, _*_, _/_, _%_}
 use mathlib.Core.List.{List, [], _∷_, map, flatten}
 use mathlib.Core.Path.{_≡_}
 use Rattle.model.specs.Lists.{numbersBelow}
-use Rattle.model.specs.Reading.{byte, versionSaid, pointsSaid, homeSaid, zonesSaid, endA, endB, carrierIn, headingIn, trackSaid, positionSaid, refusal}
+use Rattle.model.specs.Reading.{Bytes, versionSaid, pointsSaid, homeSaid, zonesSaid, endA, endB, carrierIn, headingIn, trackSaid, positionSaid, refusal}
 use Rattle.rules.specs.Key.{keyOf}
 use Rattle.rules.specs.Collapse.{collapseOf}
 use Rattle.rules.specs.Sheet.{markOf}
@@ -33,8 +33,8 @@ pub record SaySame (b d : List ℕ) : Type 0 where
 pub record SameInVersion2 (b d : List ℕ) : Type 0 where
   pub version : versionSaid d ≡ 2
   pub accepted : refusal d ≡ 0
-  pub same : SaySame d b
-  pub bytes : ((i : ℕ) → byte b i < 256) → (i : ℕ) → byte d i < 256
+  pub same : SaySame b d
+  pub bytes : Bytes b → Bytes d
 
 -- key, collapse and mark answer both boards alike, for every room and every sheet
 pub record SameAnswers (b d : List ℕ) : Type 0 where

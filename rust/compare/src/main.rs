@@ -42,10 +42,13 @@ fn differ(what: &str, board: &[u8], detail: String) -> ! {
     std::process::exit(1);
 }
 
-/// What a slice lent full of canaries holds once these words are written to its start.
+/// So many words more than are lent, so that a write past the end of what is lent shows.
+const PAST: usize = 4;
+
+/// What a vector full of canaries, lent but for its last words, holds once these words are written to its start.
 fn whole(words: impl IntoIterator<Item = u16>, room: usize, canary: u16) -> Vec<u16> {
     let mut whole: Vec<u16> = words.into_iter().collect();
-    whole.resize(room.max(whole.len()), canary);
+    whole.resize(room + PAST, canary);
     whole
 }
 
@@ -56,9 +59,9 @@ fn compare_key(tally: &mut Tally, bytes: &[u8], plan_room: usize, list_room: usi
     if older != expected {
         differ("key by the older rule", bytes, format!("older {older:?}\nnow {expected:?}"));
     }
-    let mut plan = vec![PLAN_CANARY; plan_room];
-    let mut list = vec![LIST_CANARY; list_room];
-    let got = nizkabel::key(bytes, &mut plan, &mut list);
+    let mut plan = whole([], plan_room, PLAN_CANARY);
+    let mut list = whole([], list_room, LIST_CANARY);
+    let got = nizkabel::key(bytes, &mut plan[..plan_room], &mut list[..list_room]);
     let whole_plan = whole(expected.plan.iter().copied(), plan_room, PLAN_CANARY);
     let whole_list = whole(expected.list.iter().map(|&c| c as u16), list_room, LIST_CANARY);
     let same = got.verdict == expected.verdict && got.planned == expected.plan.len() && got.listed == expected.list.len();
@@ -68,8 +71,8 @@ fn compare_key(tally: &mut Tally, bytes: &[u8], plan_room: usize, list_room: usi
     *tally.verdicts.entry(got.verdict).or_default() += 1;
 
     let (number, left) = second::collapse(bytes, list_room);
-    let mut list = vec![LIST_CANARY; list_room];
-    let got = nizkabel::collapse(bytes, &mut list);
+    let mut list = whole([], list_room, LIST_CANARY);
+    let got = nizkabel::collapse(bytes, &mut list[..list_room]);
     let whole_list = whole(left.iter().map(|&c| c as u16), list_room, LIST_CANARY);
     if got.number != number || got.listed != left.len() || list != whole_list {
         differ("collapse", bytes, format!("expected {number} {left:?}\ngot {got:?}\nlist {list:?}"));
@@ -97,15 +100,14 @@ fn compare_run_on(tally: &mut Tally, board: &Board, bytes: &[u8], sheet: &[u16])
     }
 }
 
-/// The library says the same of a board in both versions, where both have room for its numbers.
-fn compare_versions(tally: &mut Tally, board: &Board, plan_room: usize, list_room: usize, sheets: &[Vec<u16>]) {
+/// The library says the same of a board in both versions, where both have room for its numbers. Gives how many times it was asked so: once, or not.
+fn compare_versions(board: &Board, plan_room: usize, list_room: usize, sheets: &[Vec<u16>]) -> usize {
     let said: Vec<Answers> = board.in_each_version().iter().map(|bytes| answers(bytes, plan_room, list_room, sheets)).collect();
-    if let [one, two] = &said[..] {
-        if one != two {
-            differ("the two versions", &board.bytes(), format!("sheets {sheets:?}\nversion 1 {one:?}\nversion 2 {two:?}"));
-        }
-        tally.versions.in_both += 1;
+    let [one, two] = &said[..] else { return 0 };
+    if one != two {
+        differ("the two versions", &board.bytes(), format!("sheets {sheets:?}\nversion 1 {one:?}\nversion 2 {two:?}"));
     }
+    1
 }
 
 /// Counts the carriers blocked on an accepted board, which are never one, and gives them.
@@ -132,9 +134,10 @@ fn count_bytes(tally: &mut Tally, bytes: &[u8]) {
 /// On the track of an accepted board a carrier that is alone out goes home; here from a random word.
 fn compare_alone(tally: &mut Tally, random: &mut Random, board: &Board) {
     let word = random.below(board.words());
+    let carrier = [1, 255, 256, 65_535][random.below(4)];
     let mut alone = board.clone();
     for (z, zone) in alone.zones.iter_mut().enumerate() {
-        (zone.carrier, zone.heading) = if z == word / 2 { (1, (word % 2) as u32) } else { (0, 0) };
+        (zone.carrier, zone.heading) = if z == word / 2 { (carrier, (word % 2) as u32) } else { (0, 0) };
     }
     let bytes = boards::written(random, &alone);
     compare_key(tally, &bytes, 2 + board.words(), 1);
@@ -174,7 +177,7 @@ fn compare_board(tally: &mut Tally, random: &mut Random, board: &Board) {
         compare_mark(tally, &bytes, sheet);
     }
     marked.push(run_on);
-    compare_versions(tally, board, room, out, &marked);
+    tally.versions.in_both += compare_versions(board, room, out, &marked);
     if let Some((zone, sheet)) = sheets::run_again(random, board, &tried) {
         compare_mark(tally, &bytes, &sheet);
         if nizkabel::mark(&bytes, &sheet) != 32 {
@@ -215,7 +218,7 @@ fn compare_small(tally: &mut Tally, board: &Board) {
     let key = second::key(&bytes, 24, 3);
     let sheet = if key.list.is_empty() { [vec![0], key.plan].concat() } else { sheets::claim(&key.list) };
     compare_mark(tally, &bytes, &sheet);
-    compare_versions(tally, board, 24, 3, &[sheet]);
+    tally.versions.small_in_both += compare_versions(board, 24, 3, &[sheet]);
     if accepted {
         count_blocked(tally, board);
         compare_exhaustive(tally, board);
@@ -266,8 +269,9 @@ fn main() {
         }
     }
     for _ in 0..25_000 {
-        let points = 2 + random.below(5);
-        let zones = 2 + random.below(6);
+        // Once in fifty times with L over 255.
+        let (most_points, zones) = if random.once_in(50) { (30, 65) } else { (5, 2 + random.below(6)) };
+        let points = 2 + random.below(most_points);
         let sparse = 1 + random.below(3);
         let board = any_board(&mut random, points, zones, sparse);
         let bytes = boards::written(&mut random, &board);

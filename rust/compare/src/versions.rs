@@ -1,7 +1,7 @@
 //! Boards in versions 1 and 2: what the library says of one board in both, and how many boards of a comparison are of each kind, so that a run
 //! without them is no success.
 
-use crate::{LIST_CANARY, PLAN_CANARY};
+use crate::{whole, LIST_CANARY, PLAN_CANARY};
 use second::Board;
 use std::collections::{BTreeMap, HashSet};
 
@@ -17,17 +17,17 @@ pub struct Answers {
 }
 
 pub fn answers(bytes: &[u8], plan_room: usize, list_room: usize, sheets: &[Vec<u16>]) -> Answers {
-    let (mut plan, mut list, mut left) = (vec![PLAN_CANARY; plan_room], vec![LIST_CANARY; list_room], vec![LIST_CANARY; list_room]);
-    let key = nizkabel::key(bytes, &mut plan, &mut list);
-    let collapse = nizkabel::collapse(bytes, &mut left);
+    let [mut plan, mut list, mut left] = [(plan_room, PLAN_CANARY), (list_room, LIST_CANARY), (list_room, LIST_CANARY)].map(|(room, canary)| whole([], room, canary));
+    let key = nizkabel::key(bytes, &mut plan[..plan_room], &mut list[..list_room]);
+    let collapse = nizkabel::collapse(bytes, &mut left[..list_room]);
     let marks = sheets.iter().map(|sheet| nizkabel::mark(bytes, sheet)).collect();
     Answers { key, plan, list, collapse, left, marks }
 }
 
 /// The random boards as they are written: in version 1; in version 2 with numbers up to 255; with some over 255, of these the boards with
 /// numbers that differ in the high byte alone and those with carriers that are blocked. Then the boards that were asked about in both
-/// versions. Then the refused ones: by a version that is neither; by version and number; by version those whose L fits the other one; those
-/// with a number over 255 in two zones.
+/// versions, random ones and small ones. Then the refused ones: by a version that is neither; by version and number; by version those whose L fits
+/// the other one; those with a number over 255 in two zones; those with L over 255.
 #[derive(Debug, Default)]
 pub struct VersionTally {
     one: usize,
@@ -36,10 +36,12 @@ pub struct VersionTally {
     alike: usize,
     blocked: usize,
     pub in_both: usize,
+    pub small_in_both: usize,
     neither: usize,
     refused: BTreeMap<(u8, u32), usize>,
     other_length: [usize; 2],
     twice: usize,
+    long: usize,
 }
 
 impl VersionTally {
@@ -62,6 +64,7 @@ impl VersionTally {
         if number <= 3 {
             return;
         }
+        self.long += (bytes[0] != 0) as usize;
         let version = bytes[2];
         *self.refused.entry((version, number)).or_default() += 1;
         let other_size = if version == 1 { 5 } else { 4 };
@@ -73,7 +76,8 @@ impl VersionTally {
         }
     }
 
-    /// Whether each kind of accepted board is a tenth of them or more, with enough in both versions and enough refused in each way.
+    /// Whether each kind of accepted board is a tenth of them or more, a third of them and all small ones were asked about in both versions, and
+    /// enough were refused in each way.
     pub fn fair(&self) -> bool {
         let kinds = [self.one, self.two, self.wide, self.alike, self.blocked];
         let boards = self.one + self.two + self.wide;
@@ -81,8 +85,9 @@ impl VersionTally {
         let each_row = |version| (4..=9).all(|number| 50 <= refused(version, number));
         let [one, two] = self.other_length;
         kinds.iter().all(|&n| boards <= 10 * n)
-            && 1_000 <= self.in_both
+            && boards <= 3 * self.in_both
+            && 50_000 <= self.small_in_both
             && (each_row(1) && each_row(2))
-            && [self.neither, one, two, self.twice].iter().all(|&n| 50 <= n)
+            && [self.neither, one, two, self.twice, self.long].iter().all(|&n| 50 <= n)
     }
 }

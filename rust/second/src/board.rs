@@ -87,8 +87,9 @@ impl Board {
         if self.zones.iter().all(|z| z.carrier <= 255) { &[1, 2] } else { &[2] }
     }
 
-    /// Its bytes in a version.
+    /// Its bytes in a version that has room for its carriers' numbers.
     pub fn bytes_in(&self, version: u8) -> Vec<u8> {
+        assert!(self.versions().contains(&version), "a carrier's number has no room in version {version}");
         let mut zones = Vec::new();
         for z in &self.zones {
             zones.extend([z.a as u8, z.b as u8]);

@@ -5,7 +5,8 @@ use native.Mathlib.Omega.{arith}
 use lib.Seq.{length-take-le}
 use borrow.Author.Needs.{needs}
 use denote.Ref.{now}
-use Rattle.board.proofs.ReadBoard.{said, Bytes, words-in, zones-in, ready-read}
+use Rattle.model.specs.Reading.{Bytes}
+use Rattle.board.proofs.ReadBoard.{said, words-in, zones-in, ready-read}
 use Rattle.exam.proofs.KeyPromised.{key-turned-back, key-promised, summary-turned-back, summary-promised}
 use Rattle.exam.proofs.key.Statement.{statement}
 use Rattle.exam.proofs.key.Tie as tie

@@ -5,7 +5,7 @@ use mathlib.Core.Path.{sym, _∙_}
 use borrow.Author.Needs.{needs}
 use denote.Ref.{now}
 use lib.ListN.{length-replicate}
-use Rattle.board.proofs.ReadBoard.{Bytes}
+use Rattle.model.specs.Reading.{Bytes}
 use Rattle.text.proofs.KeyPages.{refused-fits, refused-begun, can-write, page-begun}
 use Rattle.text.proofs.key_page.Statement.{statement}
 use Rattle.text.proofs.key_page.Tie as tie

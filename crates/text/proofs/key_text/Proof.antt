@@ -2,7 +2,7 @@
 -- Each return is a law of Pages, by the test that led to it and the contracts of `write_too_long` and `key_page`.
 use borrow.Author.Needs.{needs}
 use denote.Ref.{now}
-use Rattle.board.proofs.ReadBoard.{Bytes}
+use Rattle.model.specs.Reading.{Bytes}
 use Rattle.text.proofs.Pages.{too-few-lent, too-long-begun, text-written}
 use Rattle.text.proofs.key_text.Statement.{statement}
 use Rattle.text.proofs.key_text.Tie as tie

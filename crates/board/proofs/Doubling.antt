@@ -77,7 +77,8 @@ starts-next {b} {once} {twice} {w} {p} S e = record { one = λ q l. first q l (e
 
 -- a turn of the loop: both words of a zone; and its end
 pub starts-zone : {b : List ℕ} {once twice once₁ twice₁ once₂ twice₂ z : ℕ} {r : Zone} → StartsTwice b once twice (2 * z) → ZoneAt b z r
-    → once₁ ≡ bitOr once (2 ^ r .a) → twice₁ ≡ bitOr twice (bitAnd once (2 ^ r .a)) → once₂ ≡ bitOr once₁ (2 ^ r .b) → twice₂ ≡ bitOr twice₁ (bitAnd once₁ (2 ^ r .b)) → StartsTwice b once₂ twice₂ (2 * (z + 1))
+    → once₁ ≡ bitOr once (2 ^ r .a) → twice₁ ≡ bitOr twice (bitAnd once (2 ^ r .a))
+    → once₂ ≡ bitOr once₁ (2 ^ r .b) → twice₂ ≡ bitOr twice₁ (bitAnd once₁ (2 ^ r .b)) → StartsTwice b once₂ twice₂ (2 * (z + 1))
 starts-zone {b} {once₂ = once₂} {twice₂ = twice₂} {z} S Z e f g h =
     subst (StartsTwice b once₂ twice₂) (let n : 2 * z + 1 + 1 ≡ 2 * (z + 1) = omega arith in n)
     (subst₂ (λ (x y : ℕ). StartsTwice b x y (2 * z + 1 + 1)) (sym g) (sym h)

@@ -79,7 +79,8 @@ module _ {b : List ℕ} {z : ℕ} {r : Zone} (Z : ZoneAt b z r) where
   pub second-end : r .b ≡ endSaid b (2 * z + 1)
   second-end = Z .b-is ∙ ap (endB b) (let e : z ≡ zoneOf (2 * z + 1) = omega arith in e) ∙ sym (said-b b (2 * z + 1) (omega arith))
 
-pub ends-next : {b e : List ℕ} {z : ℕ} {said : Zone} → e ≡ filled 192 (endSaid b) (2 * z) → ZoneAt b z said → z < 96 → set (set e (2 * z) (said .a)) (2 * z + 1) (said .b) ≡ filled 192 (endSaid b) (2 * (z + 1))
+pub ends-next : {b e : List ℕ} {z : ℕ} {said : Zone} → e ≡ filled 192 (endSaid b) (2 * z) → ZoneAt b z said → z < 96
+    → set (set e (2 * z) (said .a)) (2 * z + 1) (said .b) ≡ filled 192 (endSaid b) (2 * (z + 1))
 ends-next {b} {e} {z} {said} h Z l =
     ap (λ (r : List ℕ). set r (2 * z + 1) (said .b)) (ap₂ (λ (r : List ℕ) (v : ℕ). set r (2 * z) v) h (first-end Z) ∙ filled-next 192 (endSaid b) (2 * z) (omega arith)) ∙
     ap (set (filled 192 (endSaid b) (2 * z + 1)) (2 * z + 1)) (second-end Z) ∙

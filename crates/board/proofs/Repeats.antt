@@ -41,7 +41,9 @@ module _ {b : List ℕ} {seen : List Bool} {z : ℕ} {r : Zone} (S : Seen b seen
       low = ap (λ (x : ℕ). x % 256) (Z .carrier-is)
 
       at : (k : ℕ) → k ≡ r .carrier % 256 → getD (set seen (r .carrier % 256) true) k false ≡ true
-      at k e = ap (λ (x : ℕ). getD (set seen (r .carrier % 256) true) x false) e ∙ getD-set-same seen (r .carrier % 256) true false (subst (λ (n : ℕ). r .carrier % 256 < n) (sym (S .size)) (omega arith))
+      at k e =
+          ap (λ (x : ℕ). getD (set seen (r .carrier % 256) true) x false) e ∙
+          getD-set-same seen (r .carrier % 256) true false (subst (λ (n : ℕ). r .carrier % 256 < n) (sym (S .size)) (omega arith))
 
       kept : (y : ℕ) → getD seen (carrierIn b y % 256) false ≡ true → getD (set seen (r .carrier % 256) true) (carrierIn b y % 256) false ≡ true
       kept y m = go (eqb (carrierIn b y % 256) (r .carrier % 256)) refl

@@ -60,7 +60,8 @@ module _ {b : List ℕ} {n z : ℕ} {r : Zone} (I : Inside b) (N : ByteAt b 5 n)
   second-in = word-small (2 * z + 1) (omega arith) (second-end Z)
 
 -- a turn of the loop, and its end
-pub ways-zone : {b ways next last : List ℕ} {z : ℕ} {r : Zone} → WaysOf b ways (2 * z) → ZoneAt b z r → r .a < 64 → r .b < 64 → next ≡ added ways (r .a) (r .b) → last ≡ added next (r .b) (r .a) → WaysOf b last (2 * (z + 1))
+pub ways-zone : {b ways next last : List ℕ} {z : ℕ} {r : Zone} → WaysOf b ways (2 * z) → ZoneAt b z r → r .a < 64 → r .b < 64
+    → next ≡ added ways (r .a) (r .b) → last ≡ added next (r .b) (r .a) → WaysOf b last (2 * (z + 1))
 ways-zone {b} {ways} {next} {last} {z} {r} L Z i j e f = subst (WaysOf b last) (let n : 2 * z + 1 + 1 ≡ 2 * (z + 1) = omega arith in n) (ways-next b there (second-end Z) first-back j f)
   where
     second-back : r .b ≡ endSaid b (rev (2 * z))

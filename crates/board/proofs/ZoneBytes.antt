@@ -74,8 +74,6 @@ module _ {b : List ℕ} {w : Bool} {z : ℕ} (I : ZoneIn b w z) where
         b-is = B .is ∙ at-from 1;
         carrier-is = C .is ∙ at-from 2 ∙ sym (carrier-by false e);
         heading-is = D .is ∙ at-last 3 (four e);
-        a-small = A .small;
-        b-small = B .small;
         carrier-small = omega (arith, C .small);
         heading-small = D .small;
       }
@@ -88,8 +86,6 @@ module _ {b : List ℕ} {w : Bool} {z : ℕ} (I : ZoneIn b w z) where
             ap₂ (λ (m n : ℕ). 256 * m + n) (C .is ∙ at-from 2) (D .is ∙ at-from 3 ∙ ap (byte b) (let d : zoneFrom b z + 3 ≡ zoneFrom b z + 2 + 1 = omega arith in d)) ∙
             sym (carrier-by true e);
         heading-is = H .is ∙ at-last 4 (five e);
-        a-small = A .small;
-        b-small = B .small;
         carrier-small = omega (arith, C .small, D .small);
         heading-small = H .small;
       }

@@ -36,8 +36,6 @@ pub record ZoneAt (b : List ℕ) (z : ℕ) (r : Zone) : Type 0 where
   pub b-is : r .b ≡ endB b z
   pub carrier-is : r .carrier ≡ carrierIn b z
   pub heading-is : r .heading ≡ headingIn b z
-  pub a-small : r .a < 256
-  pub b-small : r .b < 256
   pub carrier-small : r .carrier < 65536
   pub heading-small : r .heading < 256
 

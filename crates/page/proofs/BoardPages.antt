@@ -12,21 +12,13 @@ use Rattle.rules.specs.WideCarriers.{wideT, wideK}
 use Rattle.rules.specs.Key.{namedBy, runBy, runForBy, firstToGoBy, leastRouteBy, zoneFor, nextsBy}
 use Rattle.page.specs.Page.{spelled, digitsOf, decimal, wordText, spaced, entryLine, entryLines, blockedText, firstLines, keyPage, refusedPage, pageFor, pageOf}
 
-pub page-of-K : pageOf boardK ≡ spelled "board 2 points 2 zones 1 out\nverdict 0\nhome 7: 0+ 1-\nblocked none\n"
+-- in both versions
+pub page-of-K : let page = spelled "board 2 points 2 zones 1 out\nverdict 0\nhome 7: 0+ 1-\nblocked none\n" in map pageOf (boardK ∷ wideK 0 7 0 ∷ []) ≡ page ∷ page ∷ []
 unfolding boardK boardT pageOf pageFor refusedPage keyPage firstLines blockedText entryLines entryLine spaced wordText decimal digitsOf namedBy runBy runForBy firstToGoBy leastRouteBy zoneFor nextsBy leastFrom wordsTo goalIn parts joinZones joinPoints refusal tooShort wrongLength wrongVersion outOfRange wrongCount badZone repeated underTwo apart trackSaid positionSaid stride carrierIn
 page-of-K = refl
 
-pub page-of-wide-K : pageOf (wideK 0 7 0) ≡ pageOf boardK
-unfolding boardK boardT pageOf pageFor refusedPage keyPage firstLines blockedText entryLines entryLine spaced wordText decimal digitsOf namedBy runBy runForBy firstToGoBy leastRouteBy zoneFor nextsBy leastFrom wordsTo goalIn parts joinZones joinPoints refusal tooShort wrongLength wrongVersion outOfRange wrongCount badZone repeated underTwo apart trackSaid positionSaid stride carrierIn
-page-of-wide-K = refl
-
--- board T in version 2 with carriers 7 and 263, both heading 0
-pub page-of-wide : pageOf (wideT 0 7 0 1 7 0) ≡ spelled "board 2 points 2 zones 2 out\nverdict 20\nblocked 7 263\n"
-unfolding pageOf pageFor refusedPage keyPage firstLines blockedText entryLines entryLine spaced wordText decimal digitsOf namedBy runBy runForBy firstToGoBy leastRouteBy zoneFor nextsBy leastFrom wordsTo goalIn parts joinZones joinPoints refusal tooShort wrongLength wrongVersion outOfRange wrongCount badZone repeated underTwo apart trackSaid positionSaid stride carrierIn
-page-of-wide = refl
-
--- board T with carriers 7 and 109, both heading 0
-pub page-of-blocked : pageOf (boardT 7 0 109 0) ≡ spelled "board 2 points 2 zones 2 out\nverdict 20\nblocked 7 109\n"
+-- board T with carriers 7 and 109, both heading 0; in version 2 with 7 and 263
+pub page-of-blocked : map pageOf (boardT 7 0 109 0 ∷ wideT 0 7 0 1 7 0 ∷ []) ≡ spelled "board 2 points 2 zones 2 out\nverdict 20\nblocked 7 109\n" ∷ spelled "board 2 points 2 zones 2 out\nverdict 20\nblocked 7 263\n" ∷ []
 unfolding boardT pageOf pageFor refusedPage keyPage firstLines blockedText entryLines entryLine spaced wordText decimal digitsOf namedBy runBy runForBy firstToGoBy leastRouteBy zoneFor nextsBy leastFrom wordsTo goalIn parts joinZones joinPoints refusal tooShort wrongLength wrongVersion outOfRange wrongCount badZone repeated underTwo apart trackSaid positionSaid stride carrierIn
 page-of-blocked = refl
 

@@ -18,7 +18,9 @@ module _ (f : ℕ → List ℕ) (five : (x : ℕ) → length (f x) ≡ 5) where
   pub getD-fives : (l : List ℕ) (i k : ℕ) → i < length l → k < 5 → getD (flatten (map f l)) (5 * i + k) 0 ≡ getD (f (getD l i 0)) k 0
   unfolding flatten
   getD-fives [] i k h m = absurd (omega arith)
-  getD-fives (a ∷ l) zero k h m = ap (λ (n : ℕ). getD (f a ++ flatten (map f l)) n 0) (let e : 5 * zero + k ≡ k = omega arith in e) ∙ List·getD-append (f a) (flatten (map f l)) 0 k (omega (arith, five a))
+  getD-fives (a ∷ l) zero k h m =
+      ap (λ (n : ℕ). getD (f a ++ flatten (map f l)) n 0) (let e : 5 * zero + k ≡ k = omega arith in e) ∙
+      List·getD-append (f a) (flatten (map f l)) 0 k (omega (arith, five a))
   getD-fives (a ∷ l) (suc i) k h m =
       ap (λ (n : ℕ). getD (f a ++ flatten (map f l)) n 0) (let e : 5 * suc i + k ≡ length (f a) + (5 * i + k) = omega (arith, five a) in e) ∙
       getD-append-add (f a) (flatten (map f l)) (5 * i + k) 0 ∙
@@ -32,4 +34,6 @@ module _ (f : ℕ → List ℕ) (five : (x : ℕ) → length (f x) ≡ 5) where
     where
       go : (t : Bool) → ltb i 5 ≡ t → ((j : ℕ) → getD (flatten (map f l)) j 0 < n) → getD (f a ++ flatten (map f l)) i 0 < n
       go true e rest = rw (List·getD-append (f a) (flatten (map f l)) 0 i (omega (arith, five a, ltb-true i 5 e))) (small a i)
-      go false e rest = subst (λ (m : ℕ). getD (f a ++ flatten (map f l)) m 0 < n) (let q : length (f a) + (i - 5) ≡ i = omega (arith, five a, ltb-false i 5 e) in q) (rw (getD-append-add (f a) (flatten (map f l)) (i - 5) 0) (rest (i - 5)))
+      go false e rest =
+          subst (λ (m : ℕ). getD (f a ++ flatten (map f l)) m 0 < n) (let q : length (f a) + (i - 5) ≡ i = omega (arith, five a, ltb-false i 5 e) in q)
+          (rw (getD-append-add (f a) (flatten (map f l)) (i - 5) 0) (rest (i - 5)))

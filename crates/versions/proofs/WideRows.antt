@@ -46,7 +46,10 @@ module _ (b : List ℕ) where
     bad-same : (z : ℕ) → z < zonesSaid b → badZone (inVersion2 b) z ≡ badZone b z
     unfolding badZone inVersion2
     bad-same z l i =
-        not (ltb (wide-a b z l i) (pointsSaid b)) || (not (ltb (wide-b b z l i) (pointsSaid b)) || (not (leb (wide-heading b z l i) 1) || (eqb (wide-carrier b z l i) 0 && eqb (wide-heading b z l i) 1)))
+        not (ltb (wide-a b z l i) (pointsSaid b)) ||
+        (not (ltb (wide-b b z l i) (pointsSaid b)) ||
+        (not (leb (wide-heading b z l i) 1) ||
+        (eqb (wide-carrier b z l i) 0 && eqb (wide-heading b z l i) 1)))
 
     row-6 : anyOf (badZone (inVersion2 b)) (numbersBelow (zonesSaid b)) ≡ false
     row-6 = below-any-false (badZone (inVersion2 b)) (zonesSaid b) (λ z l. bad-same z l ∙ any-below-false (badZone b) (zonesSaid b) (n .zones) z l)

@@ -36,7 +36,9 @@ loop-holds : tie.Need-loop-holds Inv-loop μ-loop
 loop-holds c = (omega arith, c .before .before .before .before .before .pre .1 .0, c .before .before .before .before .before .pre .1 .1)
 
 zone-at-requires : tie.Need-zone-at-requires Inv-loop μ-loop
-zone-at-requires c κs = zone-in (c .before .before .before .before .before .before .before .pre .0 .0) (c .before .before .is-wide .ensures) (c .before .before .before .byte .ensures) (c .loop-test .taken)
+zone-at-requires c κs =
+    let read = c .before .before in
+    zone-in (read .before .before .before .before .before .pre .0 .0) (read .is-wide .ensures) (read .before .byte .ensures) (c .loop-test .taken)
 
 mul-ends : tie.Need-mul-ends Inv-loop μ-loop
 mul-ends c = omega arith

@@ -31,7 +31,9 @@ zone-from-requires : tie.Need-zone-from-requires
 zone-from-requires c κs = c .byte3 .ensures .small
 
 returns : tie.Need-returns
-returns c = count-row (c .before .before .before .before .byte .ensures) (c .before .before .before .byte2 .ensures) (c .before .byte3 .ensures) (c .before .before .is-wide .ensures) (c .zone-from .ensures)
+returns c =
+    let second = c .before .before .before in
+    count-row (second .before .byte .ensures) (second .byte2 .ensures) (c .before .byte3 .ensures) (c .before .before .is-wide .ensures) (c .zone-from .ensures)
 
 pub wrong-count-spec : {M : Type 1} → statement M
 wrong-count-spec =

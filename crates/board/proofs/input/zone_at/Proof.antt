@@ -43,10 +43,20 @@ add-t13 : tie.Need-add-t13
 add-t13 c = search needs
 
 returns : tie.Need-returns
-returns c = zone-wide (c .before .before .before .before .before .before .before .before .pre) (c .before .before .before .before .before .before .zone-from .ensures) (c .before .before .before .before .before .byte .ensures) (c .before .before .before .before .byte2 .ensures) (c .before .before .before .byte3 .ensures) (c .before .before .byte4 .ensures) (c .before .if1 .taken) (c .byte5 .ensures)
+returns c =
+    let next = c .before .before in
+    let first = next .before in
+    let from = first .before .before .before in
+    zone-wide (from .before .before .pre) (from .zone-from .ensures) (first .before .before .byte .ensures) (first .before .byte2 .ensures) (first .byte3 .ensures) (next .byte4 .ensures)
+    (c .before .if1 .taken) (c .byte5 .ensures)
 
 returns-2 : tie.Need-returns-2
-returns-2 c = zone-narrow (c .before .before .before .before .before .before .before .pre) (c .before .before .before .before .before .zone-from .ensures) (c .before .before .before .before .byte .ensures) (c .before .before .before .byte2 .ensures) (c .before .before .byte3 .ensures) (c .before .byte4 .ensures) (c .if1 .left)
+returns-2 c =
+    let next = c .before in
+    let first = next .before in
+    let from = first .before .before .before in
+    zone-narrow (from .before .before .pre) (from .zone-from .ensures) (first .before .before .byte .ensures) (first .before .byte2 .ensures) (first .byte3 .ensures) (next .byte4 .ensures)
+    (c .if1 .left)
 
 pub zone-at-spec : {M : Type 1} → statement M
 zone-at-spec =

@@ -19,10 +19,14 @@ abbrev μ-loop : tie.MeasureT-loop
 
 -- both ends of the zone are points
 first : (c : tie.After-zone-at Inv-loop μ-loop) → c .zone-at .result .a < 64
-first c = let looping = c .before in first-in (looping .before .before .before .before .before .before .pre .0 .1) (looping .before .before .before .byte .ensures) (looping .loop-test .taken) (c .zone-at .ensures)
+first c =
+    let read = c .before .before .before in
+    first-in (read .before .before .before .before .pre .0 .1) (read .before .byte .ensures) (c .before .loop-test .taken) (c .zone-at .ensures)
 
 second : (c : tie.After-zone-at Inv-loop μ-loop) → c .zone-at .result .b < 64
-second c = let looping = c .before in second-in (looping .before .before .before .before .before .before .pre .0 .1) (looping .before .before .before .byte .ensures) (looping .loop-test .taken) (c .zone-at .ensures)
+second c =
+    let read = c .before .before .before in
+    second-in (read .before .before .before .before .pre .0 .1) (read .before .byte .ensures) (c .before .loop-test .taken) (c .zone-at .ensures)
 
 byte-requires : tie.Need-byte-requires Inv-loop μ-loop
 byte-requires c κs = omega (arith, c .before .before .pre .0 .0)
@@ -34,7 +38,9 @@ loop-holds : tie.Need-loop-holds Inv-loop μ-loop
 loop-holds c = (omega arith, ways-first (c .before .before .before .before .args .bytes .now) (c .before .before .before .before .pre .1), starts-first _)
 
 zone-at-requires : tie.Need-zone-at-requires Inv-loop μ-loop
-zone-at-requires c κs = zone-in (c .before .before .before .before .before .before .pre .0 .0) (c .before .before .is-wide .ensures) (c .before .before .before .byte .ensures) (c .loop-test .taken)
+zone-at-requires c κs =
+    let read = c .before .before in
+    zone-in (read .before .before .before .before .pre .0 .0) (read .is-wide .ensures) (read .before .byte .ensures) (c .loop-test .taken)
 
 add-second-requires : tie.Need-add-second-requires Inv-loop μ-loop
 add-second-requires c κs = first c
@@ -55,7 +61,9 @@ add-way-requires-2 : tie.Need-add-way-requires-2 Inv-loop μ-loop
 add-way-requires-2 c κs =
     let laid = c .before .before .before in
     let read = laid .before .before .before .before .before .before in
-    (omega (arith, added-size (read .before .before .loop .ways) (read .zone-at .result .a) (read .zone-at .result .b) (read .before .before .loop .inv .1 .long) (laid .add-way .ensures), second read), first read)
+    let zone = read .zone-at .result in
+    let kept = added-size (read .before .before .loop .ways) (zone .a) (zone .b) (read .before .before .loop .inv .1 .long) (laid .add-way .ensures) in
+    (omega (arith, kept, second read), first read)
 
 add-z : tie.Need-add-z Inv-loop μ-loop
 add-z c = omega arith
@@ -71,7 +79,8 @@ loop-again c =
     let inv = read .before .before .loop .inv in (
       omega arith,
       ways-zone (inv .1) (read .zone-at .ensures) (first read) (second read) (laid .add-way .ensures) (c .before .before .add-way2 .ensures),
-      starts-zone (inv .2) (read .zone-at .ensures) (taken .before .before .with .ensures) (taken .before .before .before .add-second .ensures) (taken .with2 .ensures) (taken .before .add-second2 .ensures),
+      starts-zone (inv .2) (read .zone-at .ensures)
+          (taken .before .before .with .ensures) (taken .before .before .before .add-second .ensures) (taken .with2 .ensures) (taken .before .add-second2 .ensures),
     )
 
 same-length : tie.Need-same-length Inv-loop μ-loop

@@ -385,7 +385,8 @@ ready-said b bytes e =
 -- how many bytes a zone has, and so how many an accepted board has
 pub stride-most : (w : Bool) → stride w ≤ 5
 unfolding stride
-stride-most w = cond-most w 5 4 (omega arith) (omega arith)
+stride-most true = omega arith
+stride-most false = omega arith
 
 pub accepted-length : (b : List ℕ) → refusal b ≡ 0 → length b ≤ 486
 unfolding wrongLength wrongCount

@@ -1,5 +1,5 @@
--- How the key on a track and a position meets its contract: 10 and 11 write nothing; otherwise the plan is what was sent home, and the
--- list is who is out then, and the position has only those. Who is still out after sending home is named, and fits in the list.
+-- How the key on a track and a position meets its contract: 10 and 11 write nothing; otherwise the plan is what was sent home, the
+-- list is who is out then, the position has only those, and the search count is that of the sending. Who is still out after sending home is named, and fits in the list.
 use Prim.Native.Nat.{ℕ, _+_, _*_, _≤_, _<_}
 use mathlib.Core.List.{List, _++_}
 use mathlib.Core.Path.{_≡_, sym, ap, _∙_, subst}
@@ -15,9 +15,10 @@ use Rattle.order.proofs.OnlyLeft.{within-only}
 use Rattle.order.proofs.Named.{last-within}
 use Rattle.order.proofs.Sizes.{named-most}
 use Rattle.carriers.specs.Listing.{Listable, Listed}
+use Rattle.search.specs.declared.Sent.{Sent}
 use Rattle.search.specs.Sending.{Sendable, SentHome}
 use Rattle.model.specs.Accepted.{Ready}
-use Rattle.exam.specs.Parsed.{KeyGiven, summaryOf, positionLeft}
+use Rattle.exam.specs.Parsed.{KeyGiven, summaryOf, searchedOf, positionLeft}
 use Rattle.exam.proofs.KeyLaws.{verdict-goes, key-10, key-11, key-for}
 use Rattle.exam.proofs.ReadyLaws.{listable}
 
@@ -44,7 +45,7 @@ module _ {t : Track} {p plan list : List ℕ} (room : Enough (t .zones) p plan l
   pub sendable : Ready t p → Sendable t p plan
   sendable ready = record { bounded = ready .bounded; carriers-small = λ z. omega (arith, ready .limited z); room = room .for-plan }
 
-  module _ {p′ plan′ : List ℕ} {planned : ℕ} (sent : SentHome t p plan p′ plan′ planned) where
+  module _ {p′ plan′ : List ℕ} {answer : Sent} (sent : SentHome t p plan p′ plan′ answer) where
     outs-last : outs p′ ≡ named t p
     unfolding namedBy
     outs-last = ap outs (sent .last)
@@ -65,11 +66,11 @@ module _ {t : Track} {p plan list : List ℕ} (room : Enough (t .zones) p plan l
       goes-on : turnsBack verdict ≡ false
       goes-on = ap turnsBack says ∙ verdict-goes (named t p)
 
-      pub given-key : KeyGiven (keyIn t p (length plan) (length list)) plan list verdict planned listed plan′ list′
+      pub given-key : KeyGiven (keyIn t p (length plan) (length list)) plan list verdict (answer .planned) listed plan′ list′
       unfolding keyForBy
       given-key = record {
         verdict-is = rw drawn says;
-        planned-is = rw drawn (sent .counted);
+        planned-is = rw drawn (sent .planned);
         listed-is = rw drawn (listing .counted ∙ ap length outs-last);
         plan-is = rw drawn (sent .written);
         list-is = rw drawn (listing .written ∙ ap (λ (l : List ℕ). l ++ drop (length l) list) outs-last);
@@ -77,6 +78,9 @@ module _ {t : Track} {p plan list : List ℕ} (room : Enough (t .zones) p plan l
 
       pub given-summary : {out : ℕ} → out ≡ length (outs p) → _≡_ {A = Summary} (record { points = t .points; zones = t .zones; out = out }) (summaryOf t p verdict)
       given-summary {out} counted = (λ i. record { points = t .points; zones = t .zones; out = counted i }) ∙ rw goes-on
+
+      pub given-searched : answer .searched ≡ searchedOf t p verdict
+      given-searched = rw goes-on (sent .counted)
 
       pub given-position : Ready t p → p′ ≡ positionLeft verdict (keyIn t p (length plan) (length list) .list) p
       unfolding keyForBy

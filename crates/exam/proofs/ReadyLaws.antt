@@ -1,27 +1,18 @@
 -- What holds of a position that is ready: at most one carrier a zone, so at most 96, and those out in a position within it can be listed.
 -- Each carrier out stands in a zone of its own, and zones and numbers are bounded.
 use Prim.Native.Nat.{ℕ, _+_, _*_, _≤_}
-use mathlib.Core.List.{List, map}
+use mathlib.Core.List.{List}
 use mathlib.Core.Path.{_≡_}
-use mathlib.Core.Bool.{not}
 use mathlib.Core.Logic.{⊎-elim}
 use native.Mathlib.Omega.{arith}
 use native.Mathlib.Nat.{le-trans, mul-le-mul-left, mul-le-mul-right}
-use lib.ListN.{length, length-map}
-use lib.Dec.{eqb}
-use Rattle.model.specs.Lists.{keep}
+use lib.ListN.{length}
 use Rattle.model.specs.Track.{Track}
-use Rattle.model.specs.Position.{Position, at, carrierOf, outs}
-use Rattle.model.proofs.ListLaws.{how-many-length}
-use Rattle.model.proofs.AscendingLaws.{length-ascending}
+use Rattle.model.specs.Position.{Position, at, outs}
+use Rattle.model.proofs.PositionLaws.{outs-most}
 use Rattle.order.proofs.Within.{Within}
 use Rattle.carriers.specs.Listing.{Listable}
 use Rattle.model.specs.Accepted.{Ready}
-
-outs-most : (p : Position) → length (outs p) ≤ length p
-outs-most p =
-    omega
-    (arith, length-ascending (keep (λ c. not (eqb c 0)) (map carrierOf p)), how-many-length (λ c. not (eqb c 0)) (map carrierOf p), length-map p carrierOf)
 
 module _ {t : Track} {p : Position} (ready : Ready t p) where
   pub few-out : length (outs p) ≤ 96

@@ -1,6 +1,6 @@
 -- What the public operations promise, for every input whatever: the results and the final contents as equations with the rules'
 -- definitions, and demands 2 and 3 on every accepted board. b are the board's bytes; plan and list are what was lent, plan′ and list′ at exit.
-use Prim.Native.Nat.{ℕ}
+use Prim.Native.Nat.{ℕ, _≤_}
 use mathlib.Core.List.{List, List·Memᴰ}
 use mathlib.Core.Path.{_≡_}
 use mathlib.Core.Logic.{_↔_}
@@ -11,7 +11,8 @@ use Rattle.rules.specs.Routes.{Blocked}
 use Rattle.rules.specs.Key.{keyOf}
 use Rattle.rules.specs.Collapse.{collapseOf}
 use Rattle.rules.specs.Sheet.{Right, markOf}
-use Rattle.exam.specs.Parsed.{KeyGiven, CollapseGiven}
+use Rattle.searchcount.specs.Rounds.{Counted, mostSearched}
+use Rattle.exam.specs.Parsed.{KeyGiven, searchedOf, CollapseGiven}
 use Rattle.alone.specs.HowManyBlocked.{OneBlocked, TwoBlocked}
 use Rattle.demands.specs.Demands.{KeyRight, NamedRight}
 
@@ -21,7 +22,7 @@ pub record Drawn (b : List ℕ) (verdict : ℕ) : Type 0 where
   pub not-10 : verdict ≡ 10 → ⊥
   pub not-11 : verdict ≡ 11 → ⊥
 
-pub record KeyPromise (b plan list : List ℕ) (verdict planned listed : ℕ) (plan′ list′ : List ℕ) : Type 0 where
+pub record KeyPromise (b plan list : List ℕ) (verdict planned listed searched : ℕ) (plan′ list′ : List ℕ) : Type 0 where
   -- result and contents: on 1 to 11, tried in rising order, both lengths are 0 and nothing is written
   pub given : KeyGiven (keyOf b (length plan) (length list)) plan list verdict planned listed plan′ list′
   -- demand 2, of what is written
@@ -31,6 +32,10 @@ pub record KeyPromise (b plan list : List ℕ) (verdict planned listed : ℕ) (p
   -- on no accepted board is exactly one carrier blocked, so 20 is said exactly where two or more are
   pub never-one : refusal b ≡ 0 → OneBlocked (trackSaid b) (positionSaid b) → ⊥
   pub two-blocked : Drawn b verdict → (verdict ≡ 20) ↔ TwoBlocked (trackSaid b) (positionSaid b)
+  -- the search count: 0 on 1 to 11, else the words reached in each try of the key's rounds, and never more than Z × C × (C + 1)
+  pub searched-is : searched ≡ searchedOf (trackSaid b) (positionSaid b) verdict
+  pub counted : Drawn b verdict → Counted (trackSaid b) (positionSaid b) searched
+  pub most : searched ≤ mostSearched (trackSaid b) (positionSaid b)
 
 pub record CollapsePromise (b list : List ℕ) (number listed : ℕ) (list′ : List ℕ) : Type 0 where
   pub given : CollapseGiven (collapseOf b (length list)) list number listed list′

@@ -11,6 +11,7 @@ use Rattle.model.specs.Track.{Track}
 use Rattle.model.specs.Position.{Position, onlyLeft, outs}
 use Rattle.rules.specs.Collapse.{CollapseAnswer}
 use Rattle.rules.specs.Key.{KeyAnswer, turnsBack}
+use Rattle.rules.specs.SearchCount.{searched}
 
 -- a result and the list at exit are a collapse's answer
 pub record CollapseGiven (a : CollapseAnswer) (list : List ℕ) (number listed : ℕ) (list′ : List ℕ) : Type 0 where
@@ -31,6 +32,10 @@ abbrev pub summaryOf : Track → Position → ℕ → Summary
 summaryOf t p verdict =
     cond (turnsBack verdict) (record { points = 0; zones = 0; out = 0 })
     (record { points = t .points; zones = t .zones; out = length (outs p) })
+
+-- the search count beside a key with this verdict: 0 on 1 to 11
+abbrev pub searchedOf : Track → Position → ℕ → ℕ
+searchedOf t p verdict = cond (turnsBack verdict) 0 (searched t p)
 
 -- the position that a key or a collapse leaves with this number: as it was on 1 to 11, else with only the listed carriers left
 abbrev pub positionLeft : ℕ → List ℕ → Position → Position

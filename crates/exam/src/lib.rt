@@ -11,10 +11,10 @@ ghost use Rattle.model.specs.Reading.{trackSaid, positionSaid};
 ghost use Rattle.exam.specs.Parsed.{summaryOf};
 ghost use Rattle.exam.specs.Operations.{KeyPromise, CollapsePromise, MarkPromise};
 
-// The key of the board: its verdict, the plan of those that can go home, and the list of those blocked, ascending. Beside it, points, zones
-// and carriers out, all 0 on 1 to 11.
+// The key of the board: its verdict, the plan of those that can go home, the list of those blocked, ascending, and the search count. Beside it,
+// points, zones and carriers out, all 0 on 1 to 11.
 pub fn key(bytes: &[u8], plan: &mut [u16], list: &mut [u16]) -> KeyResult
-    ensures { λ r. ⌜ KeyPromise (now (bytes .entry)) (now (plan .entry)) (now (list .entry)) (r .verdict) (r .planned) (r .listed) (now (plan .exit)) (now (list .exit)) ⌝ }
+    ensures { λ r. ⌜ KeyPromise (now (bytes .entry)) (now (plan .entry)) (now (list .entry)) (r .verdict) (r .planned) (r .listed) (r .searched) (now (plan .exit)) (now (list .exit)) ⌝ }
     ensures { λ r. ⌜ r .summary ≡ summaryOf (trackSaid (now (bytes .entry))) (positionSaid (now (bytes .entry))) (r .verdict) ⌝ }
 {
     let mut ends = [0usize; 192];
@@ -31,6 +31,7 @@ pub fn key(bytes: &[u8], plan: &mut [u16], list: &mut [u16]) -> KeyResult
             verdict: number,
             planned: 0,
             listed: 0,
+            searched: 0,
             summary: nothing,
         };
     }

@@ -9,13 +9,15 @@ ghost use Rattle.model.specs.Track.{trackOf};
 ghost use Rattle.model.specs.Accepted.{Ready};
 ghost use Rattle.rules.specs.Key.{verdictOf, keyIn};
 ghost use Rattle.rules.specs.Collapse.{collapseIn};
-ghost use Rattle.exam.specs.Parsed.{KeyGiven, CollapseGiven, summaryOf, positionLeft};
+ghost use Rattle.exam.specs.Parsed.{KeyGiven, CollapseGiven, summaryOf, searchedOf, positionLeft};
 
-// What the key gives: the verdict, how many words are written to the plan and how many carriers to the list; and what is said of the board.
+// What the key gives: the verdict, how many words are written to the plan and how many carriers to the list, and the search count; and what is
+// said of the board.
 pub struct KeyResult {
     pub verdict: u32,
     pub planned: usize,
     pub listed: usize,
+    pub searched: u32,
     pub summary: Summary,
 }
 
@@ -40,6 +42,7 @@ pub fn key(
     requires { ⌜ Ready (trackOf head (now ends)) (now position) ⌝ }
     ensures { λ r. ⌜ KeyGiven (keyIn (trackOf head (now (ends .entry))) (now (position .entry)) (length (now (plan .entry))) (length (now (list .entry)))) (now (plan .entry)) (now (list .entry)) (r .verdict) (r .planned) (r .listed) (now (plan .exit)) (now (list .exit)) ⌝ }
     ensures { λ r. ⌜ r .summary ≡ summaryOf (trackOf head (now (ends .entry))) (now (position .entry)) (r .verdict) ⌝ }
+    ensures { λ r. ⌜ r .searched ≡ searchedOf (trackOf head (now (ends .entry))) (now (position .entry)) (r .verdict) ⌝ }
     ensures { λ r. ⌜ now (position .exit) ≡ positionLeft (r .verdict) (keyIn (trackOf head (now (ends .entry))) (now (position .entry)) (length (now (plan .entry))) (length (now (list .entry))) .list) (now (position .entry)) ⌝ }
 {
     let out = carriers::count_out(position);
@@ -53,6 +56,7 @@ pub fn key(
             verdict: 10,
             planned: 0,
             listed: 0,
+            searched: 0,
             summary: nothing,
         };
     }
@@ -61,10 +65,11 @@ pub fn key(
             verdict: 11,
             planned: 0,
             listed: 0,
+            searched: 0,
             summary: nothing,
         };
     }
-    let planned = search::send_home(head, ends, position, plan);
+    let sent = search::send_home(head, ends, position, plan);
     let blocked = carriers::list_out(position, list);
     let summary = Summary {
         points: head.points,
@@ -73,8 +78,9 @@ pub fn key(
     };
     KeyResult {
         verdict: verdict(blocked),
-        planned: planned,
+        planned: sent.planned,
         listed: blocked,
+        searched: sent.searched,
         summary: summary,
     }
 }

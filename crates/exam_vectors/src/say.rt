@@ -31,6 +31,8 @@ fn say_key(bytes: &[u8], plan: &mut [u16], list: &mut [u16]) {
     item(key.planned as u64);
     io::write_all(1, b" listed");
     item(key.listed as u64);
+    io::write_all(1, b" searched");
+    item(key.searched as u64);
     say_plan(plan);
     say_list(list);
 }

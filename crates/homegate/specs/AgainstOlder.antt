@@ -12,7 +12,8 @@ use Rattle.rules.specs.Tries.{CanGoBy, CanGo, into, home, Allowed, UngatedAllow
 use Rattle.rules.specs.Key.{leavesHome, ungatedSteps, keyOf, keyOfBy}
 use Rattle.rules.specs.Sheet.{byRules, byRulesBy, markEntry, markOf, markOfBy}
 
--- no board's verdict, plan or blocked list differs: for every list of bytes and every room lent the older rule has the same key
+-- no board's verdict, plan or blocked list differs: for every list of bytes and every room lent the older rule has the same key. (The search count
+-- is another matter: nothing is reached past home now.)
 abbrev pub KeySame : Type 0
 KeySame = (b : List ℕ) (planRoom listRoom : ℕ) → keyOfBy ungatedSteps b planRoom listRoom ≡ keyOf b planRoom listRoom
 

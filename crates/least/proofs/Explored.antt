@@ -1,10 +1,10 @@
--- What the queue has once the places below i were looked at: a tree in order of path, closed under next words, with no goal below i.
+-- What the queue has once the places below i were looked at: a tree in order of path, closed under next words.
 -- To look at one place more is to offer its next words one after the other, and each offer keeps what a queue in between has.
 use Prim.Native.Nat.{ℕ, zero, suc, _≤_, _<_}
-use mathlib.Core.Path.{_≡_, refl, sym, _∙_, ap, subst}
+use mathlib.Core.Path.{_≡_, refl, sym, _∙_, subst}
 use mathlib.Core.Logic.{_⊎_, inl, inr}
 use mathlib.Core.List.{List, [], _∷_, List·Memᴰ, List·Memᴰ·head, List·Memᴰ·tail, List·Memᴰ·not-nil, List·Memᴰ·cases-cons}
-use mathlib.Core.Bool.{Bool, true, false}
+use mathlib.Core.Bool.{true, false}
 use native.Mathlib.Nat.{eq-or-lt-of-le, le-of-suc-le-suc}
 use native.Mathlib.Omega.{arith}
 use lib.ListN.{length}
@@ -13,21 +13,18 @@ use Rattle.least.specs.Queue.{Queue, inQueue, offer, offerAll}
 use Rattle.least.proofs.QueueLaws.{size, wordAt, fromAt, startQueue, added, added-places, offer-cases, offerAll-cons, offerAll-none, in-place}
 use Rattle.least.proofs.ProperQueue.{Extends, extends-same, extends-twice, extends-added}
 use Rattle.least.proofs.QueueTree.{Tree, tree-start, tree-more, tree-added, Earlier, SortedQueue, sorted-start, sorted-added, Has, has-added, has-new}
-use Rattle.least.proofs.SearchLaws.{looked}
 
-module _ (nexts : ℕ → List ℕ) (goal : ℕ → Bool) (n w : ℕ) where
+module _ (nexts : ℕ → List ℕ) (n w : ℕ) where
   pub record Explored (i : ℕ) (q : Queue) : Type 0 where
     pub tree : Tree nexts n w i q
     pub in-order : SortedQueue q
     pub closed : (j : ℕ) → j < i → (v : ℕ) → List·Memᴰ v (nexts (wordAt q j)) → Has j v q
-    pub no-goal : (j : ℕ) → j < i → goal (wordAt q j) ≡ false
 
   pub explored-start : w < n → Explored 0 (startQueue w)
   explored-start b = record {
     tree = tree-start nexts n w b;
     in-order = sorted-start w;
     closed = λ j h v m. absurd (omega arith);
-    no-goal = λ j h. absurd (omega arith);
   }
 
   -- place i of queue o is being looked at: its next words are offered but for vs, and q is the queue by now
@@ -106,12 +103,11 @@ module _ (nexts : ℕ → List ℕ) (goal : ℕ → Bool) (n w : ℕ) where
       (offer-cases (Exploring i o vs) i q v (looking-there i v l) (looking-added i v b (c v (List·Memᴰ·head refl)) l)))
 
   module _ (asc : (w : ℕ) → Ascending (nexts w)) (lower : (w v : ℕ) → List·Memᴰ v (nexts w) → v < n) where
-    pub explored-on : (i : ℕ) {q : Queue} → Explored i q → i < size q → goal (wordAt q i) ≡ false → Explored (suc i) (looked nexts i q)
-    explored-on i {q} x b e = record {
+    pub explored-on : (i : ℕ) {q : Queue} → Explored i q → i < size q → Explored (suc i) (offerAll i q (nexts (wordAt q i)))
+    explored-on i {q} x b = record {
       tree = l .tree;
       in-order = l .in-order;
       closed = λ j h. closes j (eq-or-lt-of-le (le-of-suc-le-suc h));
-      no-goal = λ j h. goalless j (eq-or-lt-of-le (le-of-suc-le-suc h));
     }
       where
         vs : List ℕ
@@ -146,7 +142,3 @@ module _ (nexts : ℕ → List ℕ) (goal : ℕ → Bool) (n w : ℕ) where
         closes : (j : ℕ) → (j ≡ i) ⊎ (j < i) → (v : ℕ) → List·Memᴰ v (nexts (wordAt r j)) → Has j v r
         closes j (inl f) v m = subst (λ (k : ℕ). List·Memᴰ v (nexts (wordAt r k)) → Has k v r) (sym f) (λ c. last-offered v (l .offered v (subst (λ (y : ℕ). List·Memᴰ v (nexts y)) (l .extends .same-word i b) c))) m
         closes j (inr f) v m = extends-has j v (x .closed j f v (rw (l .extends .same-word j (omega arith)) at m))
-
-        goalless : (j : ℕ) → (j ≡ i) ⊎ (j < i) → goal (wordAt r j) ≡ false
-        goalless j (inl f) = ap (λ k. goal (wordAt r k)) f ∙ ap goal (l .extends .same-word i b) ∙ e
-        goalless j (inr f) = ap goal (l .extends .same-word j (omega arith)) ∙ x .no-goal j f

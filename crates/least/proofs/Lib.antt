@@ -4,7 +4,6 @@ pub mod LeastWay
 pub mod GoalsShut
 pub mod QueueLaws
 pub mod ProperQueue
-pub mod SearchLaws
 pub mod PathLaws
 pub mod PathOrder
 pub mod QueueTree
@@ -12,3 +11,4 @@ pub mod Explored
 pub mod PlaceOrder
 pub mod Meets
 pub mod BreadthFirst
+pub mod Reachable

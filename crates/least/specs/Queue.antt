@@ -1,11 +1,10 @@
--- A breadth-first search over any `nexts`, as a function: the queue of words found, each with the place of the word it was found from.
--- The first word in the queue that is a goal has the least way; the program's search is this one, step by step.
+-- The queue of a breadth-first search over any `nexts`: the words found, each with the place of the word it was found from. The search looks at one
+-- place after another and offers its next words. At its end the queue holds all that is reachable, and the first goal in it has the least way.
 use Prim.Native.Nat.{ℕ, zero, suc}
 use mathlib.Core.List.{List, [], _∷_, _++_, foldl}
 use mathlib.Core.Bool.{Bool, true, false}
-use mathlib.Core.Option.{Option, none, some}
-use lib.ListN.{length, getD}
-use lib.Dec.{ltb, eqb}
+use lib.ListN.{getD}
+use lib.Dec.{eqb}
 use Rattle.model.specs.Lists.{anyOf}
 
 pub record Queue : Type 0 where
@@ -26,28 +25,6 @@ offer i q v = offerIf (inQueue q v) i q v
 unfoldable pub offerAll : ℕ → Queue → List ℕ → Queue
 offerAll i q vs = foldl (offer i) q vs
 
--- the queue and the place in it of the first goal, or no goal
-pub data Found : Type 0 where
-  nowhere : Found
-  found : Queue → ℕ → Found
-
-abbrev pub foundIf : Bool → Found → Found → Found
-foundIf true a b = a
-foundIf false a b = b
-
-module _ (nexts : ℕ → List ℕ) (goal : ℕ → Bool) where
-  -- at place i: past the end there is no goal; a goal there is the answer; else its next words are offered, and on
-  unfoldable pub searchOn : ℕ → Queue → ℕ → Found
-  searchOn zero q i = nowhere
-  searchOn (suc n) q i =
-      let rest = searchOn n (offerAll i q (nexts (getD (q .words) i 0))) (suc i) in
-      let here = foundIf (goal (getD (q .words) i 0)) (found q i) rest in
-      foundIf (ltb i (length (q .words))) here nowhere
-
-  -- at most n places are looked at
-  unfoldable pub searchFrom : ℕ → ℕ → Found
-  searchFrom n w = searchOn n (record { words = w ∷ []; froms = 0 ∷ [] }) 0
-
 -- the words from place 0 to place i, put before l
 unfoldable pub pathOnto : ℕ → Queue → ℕ → List ℕ → List ℕ
 pathOnto zero q i l = l
@@ -57,7 +34,3 @@ pathOnto (suc n) q (suc i) l = pathOnto n q (getD (q .froms) (suc i) 0) (getD (q
 -- the way from place 0 to place i
 unfoldable pub pathTo : Queue → ℕ → List ℕ
 pathTo q i = pathOnto (suc i) q i []
-
-abbrev pub wayOf : Found → Option (List ℕ)
-wayOf nowhere = none
-wayOf (found q i) = some (pathTo q i)

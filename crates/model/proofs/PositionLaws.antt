@@ -1,6 +1,6 @@
 -- Laws of positions: what is left when carriers are taken off, and who is out.
 -- By what stands in each zone.
-use Prim.Native.Nat.{ℕ, suc, _+_, _*_, _<_}
+use Prim.Native.Nat.{ℕ, suc, _+_, _*_, _≤_, _<_}
 use mathlib.Core.Path.{_≡_, refl, sym, _∙_, ap, ap₂, subst}
 use mathlib.Core.Logic.{_⊎_, inl, inr, ⊎-elim}
 use mathlib.Core.List.{List, [], _∷_, map, List·Memᴰ, Memᴰ·cast, Memᴰ·map, Memᴰ·of-map}
@@ -16,8 +16,8 @@ use Rattle.model.specs.Track.{Track, zoneOf, headingOf}
 use Rattle.model.specs.Position.{Position, at, carrierOf, isFree, Stands, Out, Once, without, retire, outs}
 use Rattle.model.specs.Accepted.{Laid}
 use Rattle.model.proofs.BoolLaws.{decided}
-use Rattle.model.proofs.ListLaws.{mem-keep, keep-mem, any-true, any-false}
-use Rattle.model.proofs.AscendingLaws.{mem-ascending, ascending-mem, ascending-strict, ascending-unique, ascending-no-repeats, keep-ascending, NoRepeats}
+use Rattle.model.proofs.ListLaws.{mem-keep, keep-mem, any-true, any-false, how-many-length}
+use Rattle.model.proofs.AscendingLaws.{mem-ascending, ascending-mem, length-ascending, ascending-strict, ascending-unique, ascending-no-repeats, keep-ascending, NoRepeats}
 use Rattle.model.proofs.PlaceLaws.{keep-one-fewer, mem-getD, getD-mem}
 use Rattle.model.proofs.WordLaws.{below-zone, carrier-word, heading-small, heading-word, word-parts}
 
@@ -206,6 +206,12 @@ apart-no-repeats (v ∷ p) a = go (eqb (carrierOf v) 0) refl (apart-no-repeats p
 
 pub outs-ascending : (p : Position) → Once p → Ascending (outs p)
 outs-ascending p o = ascending-strict (keep (λ c. not (eqb c 0)) (map carrierOf p)) (apart-no-repeats p (once-apart p o))
+
+-- at most as many are out as there are zones
+pub outs-most : (p : Position) → length (outs p) ≤ length p
+outs-most p =
+    omega
+    (arith, length-ascending (keep (λ c. not (eqb c 0)) (map carrierOf p)), how-many-length (λ c. not (eqb c 0)) (map carrierOf p), length-map p carrierOf)
 
 pub outs-without : (g : ℕ → Bool) (p : Position) → Once p → outs (without g p) ≡ keep (λ c. not (g c)) (outs p)
 outs-without g p o =

@@ -1,23 +1,23 @@
 // The operations for programs in C, C++ and Rust, under C's calling convention; include/nizkabel.h declares them. A slice is a pointer and a
-// count of elements. The lengths that an operation gives beside its number go to `out`. Each promise is the operation's own, whole, with
-// what `out` holds at exit in the place of those lengths.
+// count of elements. The lengths and the search count that an operation gives beside its number go to `out`. Each promise is the operation's own,
+// whole, with what `out` holds at exit in their place.
 ghost use lib.ListN.{getD};
 ghost use Rattle.exam.specs.Operations.{KeyPromise, CollapsePromise, MarkPromise};
 
-// The key of the board: out[0] is the count of words in the plan, out[1] the count of carriers in the list.
+// The key of the board: out[0] is the count of words in the plan, out[1] the count of carriers in the list, out[2] the search count.
 #[no_mangle]
 pub extern "C" fn nizkabel_key(
     board: &[u8],
     plan: &mut [u16],
     list: &mut [u16],
-    out: &mut [u32; 2],
+    out: &mut [u32; 3],
 ) -> u32
-    ensures { λ r. ⌜ KeyPromise (now (board .entry)) (now (plan .entry)) (now (list .entry)) r (getD (now (out .exit)) 0 0) (getD (now (out .exit)) 1 0) (now (plan .exit)) (now (list .exit)) ⌝ }
+    ensures { λ r. ⌜ KeyPromise (now (board .entry)) (now (plan .entry)) (now (list .entry)) r (getD (now (out .exit)) 0 0) (getD (now (out .exit)) 1 0) (getD (now (out .exit)) 2 0) (now (plan .exit)) (now (list .exit)) ⌝ }
 {
     let key = exam::key(board, plan, list);
     let planned = key.planned as u32;
     let listed = key.listed as u32;
-    *out = [planned, listed];
+    *out = [planned, listed, key.searched];
     key.verdict
 }
 

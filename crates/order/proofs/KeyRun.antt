@@ -33,7 +33,7 @@ pub retires-laid : {t : Track} {p q : Position} {es : List Entry} → Retires t 
 retires-laid rs laid = laid-within (within-retires rs) laid
 
 -- a carrier with no least route cannot go
-no-least : {t : Track} {p : Position} {c : ℕ} → Laid t p → leastRoute t p c ≡ none → CanGo t p c → ⊥
+pub no-least : {t : Track} {p : Position} {c : ℕ} → Laid t p → leastRoute t p c ≡ none → CanGo t p c → ⊥
 no-least laid e g = let f = route-least-exists laid g in let z : _≡_ {A = ℕ} 0 1 = cc (f .1) in omega arith
 
 out-counted : (p : Position) {c : ℕ} → Out p c → 0 < length (outs p)

@@ -136,6 +136,10 @@ module _ {zones : ℕ} {ends p follows : List ℕ} (t : BoardTable zones ends p 
     words-taken : take (found + length next) words′ ≡ take found words ++ next
     words-taken = taken next words words′ found (omega (arith, queued-most q, q .room-words)) (o .stored .words-stored)
 
+    -- what was in the queue stays
+    pub offered-before : (j : ℕ) → j < found → getD words′ j 0 ≡ getD words j 0
+    offered-before j h = stored-before next words words′ found (omega (arith, queued-most q, q .room-words)) words-taken j h
+
     froms-taken : take (found + length (map (λ v. i) next)) froms′ ≡ take found froms ++ map (λ v. i) next
     froms-taken = taken (map (λ v. i) next) froms froms′ found (omega (arith, queued-most q, q .room-froms)) (o .stored .froms-stored)
 
@@ -177,7 +181,7 @@ module _ {zones : ℕ} {ends p follows : List ℕ} (t : BoardTable zones ends p 
         inside : (j : ℕ) → j < r → (b : Bool) → ltb j found ≡ b → getD words′ j 0 < m
         inside j h true e =
             let l : j < found = ltb-true j found e in
-            rw (stored-before next words words′ found (omega (arith, queued-most q, q .room-words)) words-taken j l) (q .inside j l)
+            rw (offered-before j l) (q .inside j l)
         inside j h false e =
             let l : found ≤ j = ltb-false j found e in
             let sum : j ≡ found + (j - found) = omega arith in

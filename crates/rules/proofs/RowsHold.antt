@@ -1,5 +1,5 @@
--- Every row of the six tables holds: the starred boards, the table of verdicts, the boards with turning loops, the home gate, the two-zone rule,
--- the boards of version 2.
+-- Every row of the seven tables holds: the starred boards, the table of verdicts, the boards with turning loops, the home gate, the two-zone rule,
+-- the boards of version 2, the search count.
 -- The definitions compute: one `refl` for a whole table. So many rows stand in each, lest an empty table hold.
 use mathlib.Core.List.{flatten}
 use mathlib.Core.Path.{_≡_, refl}
@@ -11,6 +11,7 @@ use Rattle.rules.specs.TurningLoops.{loopAtHome, turningLoops}
 use Rattle.rules.specs.HomeGate.{nearHome, otherHome, homeGate}
 use Rattle.rules.specs.TwoZoneRule.{twoZoneRule}
 use Rattle.rules.specs.WideCarriers.{wideZonesFree, wideCarriers}
+use Rattle.rules.specs.SearchRows.{searchRows}
 
 pub starred-rows : length starred ≡ 10
 unfolding starred
@@ -59,3 +60,11 @@ wide-rows = refl
 pub wide-hold : Hold wideCarriers
 unfolding wideCarriers wideZonesFree headed given
 wide-hold = refl
+
+pub search-rows : length searchRows ≡ 13
+unfolding searchRows
+search-rows = refl
+
+pub search-hold : Hold searchRows
+unfolding searchRows boardT turnWith farLoop flatten given
+search-hold = refl

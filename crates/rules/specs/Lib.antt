@@ -2,6 +2,7 @@ pub mod Routes
 pub mod Search
 pub mod Tries
 pub mod Key
+pub mod SearchCount
 pub mod Collapse
 pub mod Sheet
 pub mod Rows
@@ -11,3 +12,4 @@ pub mod TurningLoops
 pub mod HomeGate
 pub mod TwoZoneRule
 pub mod WideCarriers
+pub mod SearchRows

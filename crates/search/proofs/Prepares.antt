@@ -25,11 +25,10 @@ module _ {t : Track} {p plan : List ℕ} (sendable : Sendable t p plan) where
       → Prepared t p follows free order count (replicate 192 0) (replicate 192 0) plan
   sendable-prepared {follows} {free} {order} {count} filled f words b sorted = record {
     seeking = record {
+      laid = sendable .bounded .laid;
       tables = record { few = sendable .bounded .zones-most; each = sendable .bounded .laid .each; both = sendable .bounded .ends-count; rows = f; filled = filled };
       blocks = b;
       free-words = words;
-      once = sendable .bounded .laid .once;
-      free-heading = sendable .bounded .laid .free-heading;
       room-words = rw length-replicate (omega (arith, sendable .bounded .zones-most));
       room-froms = rw length-replicate (omega (arith, sendable .bounded .zones-most));
       in-order = sorted-in-order sorted;

@@ -1,4 +1,4 @@
--- Laws of the rounds: what is written and the run from here make the whole run's plan, and end in its last position.
+-- Laws of the rounds: what is written and the run from here make the whole run's plan, and end in its last position; and so for the search count.
 -- One round is one step of the key's run; with none left to go, nothing is left of it.
 use Prim.Native.Nat.{ℕ, suc, _+_, _-_, _*_, _≤_, _<_}
 use mathlib.Core.Path.{_≡_, refl, sym, _∙_, ap, ap₂, subst}
@@ -6,29 +6,33 @@ use mathlib.Core.List.{List, [], _∷_, _++_, append-nil, append-assoc}
 use mathlib.Core.Bool.{Bool, true, false, _&&_, _||_, or-true, or-false}
 use mathlib.Core.Logic.{⊎-elim}
 use native.Mathlib.Omega.{arith}
-use native.Mathlib.Nat.{suc-mul}
+use native.Mathlib.Nat.{suc-mul, le-trans, mul-le-mul-right}
 use lib.ListN.{length, take, drop, set, length-append, length-set}
 use lib.Dec.{eqb, ltb}
 use lib.Seq.{take-append-seam, drop-append-add, drop-drop, getD-set-same, getD-set-other}
 use borrow.Author.Tests.{eqb-true, eqb-false, eq-eqb, lt-ltb}
 use Rattle.model.specs.Track.{Track, zoneOf, headingOf}
 use Rattle.model.specs.Position.{Position, at, carrierOf, isFree, Stands, Once, retire, outs}
+use Rattle.model.specs.Accepted.{Laid}
 use Rattle.model.proofs.BoolLaws.{and-both}
 use Rattle.model.proofs.WordLaws.{heading-small, zone-word}
-use Rattle.model.proofs.PositionLaws.{once-retire, held-stands, retire-set, outs-retire-length, length-without, without-cases}
+use Rattle.model.proofs.PositionLaws.{laid-retire, held-stands, retire-set, outs-most, outs-retire-length, length-without, without-cases}
 use Rattle.rules.specs.Key.{Run, run, planWords}
+use Rattle.rules.specs.SearchCount.{searched}
+use Rattle.searchcount.proofs.Bounded.{searched-most}
 use Rattle.queue.specs.WordSets.{inSet, ZoneAdded, FreeWords}
 use Rattle.queue.specs.Written.{routeTo, entryOf, EntryRoom, EntryWritten}
 use Rattle.least.proofs.PathLaws.{path-length}
-use Rattle.search.specs.Leaving.{Seeking, Sought}
+use Rattle.search.specs.Leaving.{Seeking, entryGiven, GivenBy, Sought}
 use Rattle.search.specs.Sending.{Prepared, planOf, SentHome}
 use Rattle.search.specs.declared.Goes.{Goes}
+use Rattle.search.specs.declared.Outcome.{Outcome}
 use Rattle.search.specs.declared.Goes.the-variants.{From, Nobody}
 use Rattle.search.proofs.Retiring.{in-order-retire}
-use Rattle.search.proofs.Runs.{run-none, run-out, run-step}
+use Rattle.search.proofs.Runs.{run-none, run-out, run-step, searched-most-round, searched-none, searched-out, searched-step}
 
--- the rounds, with the carriers of `written` gone and k words stored
-pub record Underway (t : Track) (follows order : List ℕ) (count : ℕ) (words₀ froms₀ free₀ p₀ plan₀ words froms free p plan : List ℕ) (left k : ℕ) : Type 0 where
+-- the rounds, with the carriers of `written` gone, k words stored and so many words counted
+pub record Underway (t : Track) (follows order : List ℕ) (count : ℕ) (words₀ froms₀ free₀ p₀ plan₀ words froms free p plan : List ℕ) (left k counted : ℕ) : Type 0 where
   pub seeking : Seeking t p follows free order count words froms
   pub carriers-small : (z : ℕ) → at p z < 131072
   pub same-words : length words ≡ length words₀
@@ -36,17 +40,26 @@ pub record Underway (t : Track) (follows order : List ℕ) (count : ℕ) (words�
   pub same-free : length free ≡ length free₀
   pub same-position : length p ≡ length p₀
   pub same-plan : length plan ≡ length plan₀
-  pub counted : left ≡ length (outs p)
+  pub still-out : left ≡ length (outs p)
   pub written : List ℕ
   pub here : length written ≡ k
   pub stored : plan ≡ written ++ drop k plan₀
   pub room : k + left * (2 + 2 * t .zones) ≤ length plan₀
   pub rest-plan : written ++ planOf t p ≡ planOf t p₀
   pub rest-last : run t p .last ≡ run t p₀ .last
+  pub rest-count : counted + searched t p ≡ searched t p₀
+  pub count-few : searched t p₀ ≤ 893952
+
+-- at most 96 zones and as many carriers
+few-searched : (t : Track) (p : Position) → Laid t p → t .zones ≤ 96 → searched t p ≤ 893952
+few-searched t p laid few =
+    le-trans (searched-most t p laid)
+    (le-trans (mul-le-mul-right (length (outs p) + 1) (le-trans (mul-le-mul-right (length (outs p)) few) (omega (arith, outs-most p, laid .each))))
+    (let most : 9216 * (length (outs p) + 1) ≤ 893952 = omega (arith, outs-most p, laid .each) in most))
 
 pub underway-starts : {t : Track} {p follows free order : List ℕ} {count : ℕ} {words froms plan : List ℕ} → Prepared t p follows free order count words froms plan
-    → Underway t follows order count words froms free p plan words froms free p plan count 0
-underway-starts {t} m = record {
+    → Underway t follows order count words froms free p plan words froms free p plan count 0 0
+underway-starts {t} {p} m = record {
   seeking = m .seeking;
   carriers-small = m .carriers-small;
   same-words = refl;
@@ -54,50 +67,63 @@ underway-starts {t} m = record {
   same-free = refl;
   same-position = refl;
   same-plan = refl;
-  counted = m .counted;
+  still-out = m .counted;
   written = [];
   here = refl;
   stored = refl;
   room = omega (arith, m .room, ap (λ (n : ℕ). n * (2 + 2 * t .zones)) (m .counted));
   rest-plan = refl;
   rest-last = refl;
+  rest-count = omega arith;
+  count-few = few-searched t p (m .seeking .laid) (m .seeking .tables .few);
 }
 
-module _ {t : Track} {follows order : List ℕ} {count : ℕ} {words₀ froms₀ free₀ p₀ plan₀ words froms free p plan : List ℕ} {left k : ℕ}
-    (u : Underway t follows order count words₀ froms₀ free₀ p₀ plan₀ words froms free p plan left k) where
-  -- nothing is left of the run
-  ends-here : run t p ≡ record { plan = []; last = p } → SentHome t p₀ plan₀ p plan k
+module _ {t : Track} {follows order : List ℕ} {count : ℕ} {words₀ froms₀ free₀ p₀ plan₀ words froms free p plan : List ℕ} {left k counted : ℕ}
+    (u : Underway t follows order count words₀ froms₀ free₀ p₀ plan₀ words froms free p plan left k counted) where
+  -- nothing is left of the run, and all is counted
+  ends-here : {n : ℕ} → run t p ≡ record { plan = []; last = p } → n ≡ searched t p₀ → SentHome t p₀ plan₀ p plan (record { planned = k; searched = n })
   unfolding planWords
-  ends-here e = record {
-    counted = sym (u .here) ∙ ap length all;
+  ends-here e n = record {
+    planned = sym (u .here) ∙ ap length all;
     written = u .stored ∙ ap₂ (λ (w : List ℕ) (n : ℕ). w ++ drop n plan₀) all (sym (u .here) ∙ ap length all);
     last = ap (λ (r : Run). r .last) (sym e) ∙ u .rest-last;
+    counted = n;
   }
     where
       all : u .written ≡ planOf t p₀
       all = sym (append-nil (u .written)) ∙ ap (λ (r : Run). u .written ++ planWords (r .plan)) (sym e) ∙ u .rest-plan
 
-  pub underway-done : left ≤ 0 → SentHome t p₀ plan₀ p plan k
-  underway-done h = ends-here (run-out t p (omega (arith, u .counted)))
+  pub underway-done : left ≤ 0 → SentHome t p₀ plan₀ p plan (record { planned = k; searched = counted })
+  underway-done h = ends-here (run-out t p (omega (arith, u .still-out))) (omega (arith, u .rest-count, searched-out t p (omega (arith, u .still-out))))
 
-  pub underway-nobody : {words′ froms′ : List ℕ} → Sought t p words′ froms′ Nobody → SentHome t p₀ plan₀ p plan k
-  underway-nobody s = ends-here (run-none t p (sym (s .entry)))
+  module _ (some-left : 0 < left) {words′ froms′ : List ℕ} where
+    pub underway-few : {r : Outcome} → Sought t p words′ froms′ r → counted + r .searched ≤ 893952
+    underway-few s = omega (arith, s .counted, searched-most-round t p (omega (arith, u .still-out)), u .rest-count, u .count-few)
 
--- the answer is known
-pub sought-at : {t : Track} {p words froms : List ℕ} {r : Goes} (a : Goes) → r ≡ a → Sought t p words froms r → Sought t p words froms a
-sought-at {t} {p} {words} {froms} a e s = subst (Sought t p words froms) e s
+    pub underway-nobody : {found : ℕ} → Sought t p words′ froms′ (record { goes = Nobody; searched = found }) → SentHome t p₀ plan₀ p plan (record { planned = k; searched = counted + found })
+    underway-nobody s =
+        ends-here (run-none t p (sym (s .entry)))
+        (omega (arith, s .counted, searched-none t p (omega (arith, u .still-out)) (sym (s .entry)), u .rest-count))
+
+-- who goes is known
+pub sought-at : {t : Track} {p words froms : List ℕ} {r : Outcome} (a : Goes) → r .goes ≡ a → Sought t p words froms r → Sought t p words froms (record { goes = a; searched = r .searched })
+sought-at {t} {p} {words} {froms} a e s = record {
+  entry = ap (entryGiven p words froms) (sym e) ∙ s .entry;
+  given = subst (GivenBy (t .zones) p words froms) e (s .given);
+  counted = s .counted;
+}
 
 -- one of the carriers left goes
-pub record OneGoes (t : Track) (follows order : List ℕ) (count : ℕ) (words₀ froms₀ free₀ p₀ plan₀ words froms free p plan : List ℕ) (left k : ℕ) (words′ froms′ : List ℕ) (zone place : ℕ) : Type 0 where
-  pub underway : Underway t follows order count words₀ froms₀ free₀ p₀ plan₀ words froms free p plan left k
+pub record OneGoes (t : Track) (follows order : List ℕ) (count : ℕ) (words₀ froms₀ free₀ p₀ plan₀ words froms free p plan : List ℕ) (left k counted : ℕ) (words′ froms′ : List ℕ) (zone place found : ℕ) : Type 0 where
+  pub underway : Underway t follows order count words₀ froms₀ free₀ p₀ plan₀ words froms free p plan left k counted
   pub some-left : 0 < left
   pub same-words : length words′ ≡ length words
   pub same-froms : length froms′ ≡ length froms
-  pub sought : Sought t p words′ froms′ (From zone place)
+  pub sought : Sought t p words′ froms′ (record { goes = From zone place; searched = found })
 
-module _ {t : Track} {follows order : List ℕ} {count : ℕ} {words₀ froms₀ free₀ p₀ plan₀ words froms free p plan : List ℕ} {left k : ℕ} {words′ froms′ : List ℕ} {zone place : ℕ}
-    (x : OneGoes t follows order count words₀ froms₀ free₀ p₀ plan₀ words froms free p plan left k words′ froms′ zone place) where
-  abbrev u : Underway t follows order count words₀ froms₀ free₀ p₀ plan₀ words froms free p plan left k
+module _ {t : Track} {follows order : List ℕ} {count : ℕ} {words₀ froms₀ free₀ p₀ plan₀ words froms free p plan : List ℕ} {left k counted : ℕ} {words′ froms′ : List ℕ} {zone place found : ℕ}
+    (x : OneGoes t follows order count words₀ froms₀ free₀ p₀ plan₀ words froms free p plan left k counted words′ froms′ zone place found) where
+  abbrev u : Underway t follows order count words₀ froms₀ free₀ p₀ plan₀ words froms free p plan left k counted
   u = x .underway
 
   abbrev carrier : ℕ
@@ -119,7 +145,7 @@ module _ {t : Track} {follows order : List ℕ} {count : ℕ} {words₀ froms₀
   goes-number = u .carriers-small zone
 
   once : Once p
-  once = u .seeking .once
+  once = u .seeking .laid .once
 
   one-entry : left * (2 + 2 * t .zones) ≡ (left - 1) * (2 + 2 * t .zones) + (2 + 2 * t .zones)
   one-entry =
@@ -140,6 +166,9 @@ module _ {t : Track} {follows order : List ℕ} {count : ℕ} {words₀ froms₀
 
   step : run t p ≡ record { plan = record { carrier = carrier; words = routeTo words′ froms′ place } ∷ run t (retire carrier p) .plan; last = run t (retire carrier p) .last }
   step = run-step t p (sym (x .sought .entry)) (outs-retire-length carrier p once (_, stands))
+
+  step-count : searched t p ≡ found + searched t (retire carrier p)
+  step-count = searched-step t p (sym (x .sought .entry)) (outs-retire-length carrier p once (_, stands)) ∙ ap (λ (n : ℕ). n + searched t (retire carrier p)) (sym (x .sought .counted))
 
   freed : retire carrier p ≡ set p zone 0
   freed = retire-set once stands ∙ ap (λ (z : ℕ). set p z 0) (zone-word zone (headingOf (at p zone)) (heading-small (at p zone)))
@@ -163,18 +192,17 @@ module _ {t : Track} {follows order : List ℕ} {count : ℕ} {words₀ froms₀
 
   retired-seeking : {free′ : List ℕ} → ZoneAdded zone free free′ → length free′ ≡ length free → Seeking t (retire carrier p) follows free′ order count words′ froms′
   retired-seeking a b = record {
+    laid = laid-retire t carrier p (u .seeking .laid);
     tables = record { few = u .seeking .tables .few; each = length-without (eqb carrier) p ∙ u .seeking .tables .each; both = u .seeking .tables .both; rows = u .seeking .tables .rows; filled = u .seeking .tables .filled };
     blocks = b ∙ u .seeking .blocks;
     free-words = freed-words a;
-    once = once-retire carrier p once;
-    free-heading = λ z e. ⊎-elim (λ q. u .seeking .free-heading z (sym q ∙ e)) (λ q. let f : at (retire carrier p) z ≡ 0 = q .1 in omega arith) (without-cases (eqb carrier) p z);
     room-words = omega (arith, u .seeking .room-words, x .same-words);
     room-froms = omega (arith, u .seeking .room-froms, x .same-froms);
     in-order = in-order-retire carrier once (u .seeking .in-order);
   }
 
   module _ {plan′ free′ : List ℕ} {r : ℕ} (w : EntryWritten carrier place words′ froms′ plan k plan′ r) (as-plan : length plan′ ≡ length plan) (added : ZoneAdded zone free free′) (as-free : length free′ ≡ length free) where
-    retired : Underway t follows order count words₀ froms₀ free₀ p₀ plan₀ words′ froms′ free′ (retire carrier p) plan′ (left - 1) r
+    retired : Underway t follows order count words₀ froms₀ free₀ p₀ plan₀ words′ froms′ free′ (retire carrier p) plan′ (left - 1) r (counted + found)
     unfolding planWords
     retired = record {
       seeking = retired-seeking added as-free;
@@ -184,13 +212,15 @@ module _ {t : Track} {follows order : List ℕ} {count : ℕ} {words₀ froms₀
       same-free = as-free ∙ u .same-free;
       same-position = length-without (eqb carrier) p ∙ u .same-position;
       same-plan = as-plan ∙ u .same-plan;
-      counted = omega (arith, x .some-left, u .counted, outs-retire-length carrier p once (_, stands));
+      still-out = omega (arith, x .some-left, u .still-out, outs-retire-length carrier p once (_, stands));
       written = u .written ++ entry;
       here = length-append (u .written) entry ∙ ap (λ (n : ℕ). n + length entry) (u .here) ∙ sym (w .next);
       stored = stored;
       room = omega (arith, w .next, path-length (record { words = words′; froms = froms′ }) place, x .sought .given .few, one-entry, u .room);
       rest-plan = append-assoc (u .written) entry (planOf t (retire carrier p)) ∙ ap (λ (y : Run). u .written ++ planWords (y .plan)) (sym step) ∙ u .rest-plan;
       rest-last = ap (λ (y : Run). y .last) (sym step) ∙ u .rest-last;
+      rest-count = omega (arith, step-count, u .rest-count);
+      count-few = u .count-few;
     }
       where
         before : take k plan ≡ u .written
@@ -206,5 +236,5 @@ module _ {t : Track} {follows order : List ℕ} {count : ℕ} {words₀ froms₀
         stored : plan′ ≡ (u .written ++ entry) ++ drop r plan₀
         stored = w .stored ∙ ap₂ (λ (a b : List ℕ). a ++ (entry ++ b)) before beyond ∙ sym (append-assoc (u .written) entry (drop r plan₀))
 
-    pub goes-more : Underway t follows order count words₀ froms₀ free₀ p₀ plan₀ words′ froms′ free′ (set p zone 0) plan′ (left - 1) r
-    goes-more = subst (λ (y : Position). Underway t follows order count words₀ froms₀ free₀ p₀ plan₀ words′ froms′ free′ y plan′ (left - 1) r) freed retired
+    pub goes-more : Underway t follows order count words₀ froms₀ free₀ p₀ plan₀ words′ froms′ free′ (set p zone 0) plan′ (left - 1) r (counted + found)
+    goes-more = subst (λ (y : Position). Underway t follows order count words₀ froms₀ free₀ p₀ plan₀ words′ froms′ free′ y plan′ (left - 1) r (counted + found)) freed retired

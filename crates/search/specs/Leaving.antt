@@ -5,24 +5,26 @@ use mathlib.Core.Path.{_≡_}
 use mathlib.Core.Option.{Option, none, some}
 use lib.ListN.{length}
 use Rattle.model.specs.Track.{Track}
-use Rattle.model.specs.Position.{Position, at, carrierOf, Once, outs}
+use Rattle.model.specs.Position.{Position, at, carrierOf, outs}
+use Rattle.model.specs.Accepted.{Laid}
 use Rattle.rules.specs.Routes.{Entry}
 use Rattle.rules.specs.Key.{firstToGo}
+use Rattle.rules.specs.SearchCount.{sumOfLengths, tried}
 use Rattle.search.specs.Order.{InOrder}
 use Rattle.queue.specs.WordSets.{FreeWords}
 use Rattle.queue.specs.Follows.{BoardTable}
 use Rattle.queue.specs.Written.{routeTo, Readable}
 use Rattle.search.specs.declared.Goes.{Goes}
 use Rattle.search.specs.declared.Goes.the-variants.{From, Nobody}
+use Rattle.search.specs.declared.Outcome.{Outcome}
 
--- what the search over the carriers asks: no carrier in two zones, no zone that holds number 1, the table, the words of the free zones, the order, and room
--- for a queue of all words
+-- what the search over the carriers asks: a position laid on the track, the table, the words of the free zones, the order, and room for a queue of
+-- all words
 pub record Seeking (t : Track) (p follows free order : List ℕ) (count : ℕ) (words froms : List ℕ) : Type 0 where
+  pub laid : Laid t p
   pub tables : BoardTable (t .zones) (t .ends) p follows
   pub blocks : length free ≡ 3
   pub free-words : FreeWords p free
-  pub once : Once p
-  pub free-heading : (z : ℕ) → at p z ≡ 1 → ⊥
   pub room-words : 2 * t .zones ≤ length words
   pub room-froms : 2 * t .zones ≤ length froms
   pub in-order : InOrder p order count
@@ -44,7 +46,8 @@ abbrev pub GivenBy : ℕ → Position → List ℕ → List ℕ → Goes → Typ
 GivenBy zones p words froms (From zone place) = Given zones p words froms zone place
 GivenBy zones p words froms Nobody = Unit {0}
 
--- what it gives: the entry of the carrier that leaves next, or none
-pub record Sought (t : Track) (p words froms : List ℕ) (r : Goes) : Type 0 where
-  pub entry : entryGiven p words froms r ≡ firstToGo t p (outs p)
-  pub given : GivenBy (t .zones) p words froms r
+-- what it gives: the entry of the carrier that leaves next, or none, and how many words the tries reached
+pub record Sought (t : Track) (p words froms : List ℕ) (r : Outcome) : Type 0 where
+  pub entry : entryGiven p words froms (r .goes) ≡ firstToGo t p (outs p)
+  pub given : GivenBy (t .zones) p words froms (r .goes)
+  pub counted : r .searched ≡ sumOfLengths (tried t p (outs p))

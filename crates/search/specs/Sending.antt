@@ -8,7 +8,9 @@ use Rattle.model.specs.Track.{Track}
 use Rattle.model.specs.Position.{Position, at, outs}
 use Rattle.model.specs.Accepted.{Bounded}
 use Rattle.rules.specs.Key.{run, planWords}
+use Rattle.rules.specs.SearchCount.{searched}
 use Rattle.search.specs.Leaving.{Seeking}
+use Rattle.search.specs.declared.Sent.{Sent}
 
 -- carriers of 16 bits, as the plan's words are, and room for the plan of all that are out
 pub record Sendable (t : Track) (p plan : List ℕ) : Type 0 where
@@ -27,8 +29,9 @@ pub record Prepared (t : Track) (p follows free order : List ℕ) (count : ℕ) 
 abbrev pub planOf : Track → Position → List ℕ
 planOf t p = planWords (run t p .plan)
 
--- the plan's words are stored, the rest of the plan is as it was, and all that can go are gone
-pub record SentHome (t : Track) (p plan p′ plan′ : List ℕ) (r : ℕ) : Type 0 where
-  pub counted : r ≡ length (planOf t p)
+-- the plan's words are stored, the rest of the plan is as it was, all that can go are gone, and the words reached in all tries are counted
+pub record SentHome (t : Track) (p plan p′ plan′ : List ℕ) (r : Sent) : Type 0 where
+  pub planned : r .planned ≡ length (planOf t p)
   pub written : plan′ ≡ overwritten (planOf t p) plan
   pub last : p′ ≡ run t p .last
+  pub counted : r .searched ≡ searched t p

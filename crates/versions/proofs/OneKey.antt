@@ -7,6 +7,7 @@ use mathlib.Core.Bool.{cond}
 use lib.Dec.{eqb}
 use Rattle.model.specs.Reading.{versionSaid, refusal}
 use Rattle.rules.specs.Key.{turnedBack, keyIn, keyOfBy}
+use Rattle.rules.specs.SearchCount.{searched}
 use Rattle.rules.specs.Collapse.{collapseIn, collapseOf}
 use Rattle.rules.specs.Sheet.{markFor, markOfBy}
 use Rattle.versions.specs.Versions.{inVersion2, InBothVersions, AnswersBySaid, OneKey}
@@ -26,6 +27,7 @@ answers-by-said b d e f s =
     let r : refusal b ≡ refusal d = e ∙ sym f in
     record {
       key = λ m n i. cond (eqb (r i) 0) (keyIn (s .track i) (s .position i) m n) (turnedBack (r i));
+      searched = λ i. searched (s .track i) (s .position i);
       collapse = λ n i. cond (eqb (r i) 0) (collapseIn (s .track i) (s .position i) n) (record { number = r i; list = [] });
       mark = λ ws i. cond (eqb (r i) 0) (markFor (s .track i) (s .position i) ws) (r i);
     }

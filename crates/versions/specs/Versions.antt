@@ -6,6 +6,7 @@ use mathlib.Core.Path.{_≡_}
 use Rattle.model.specs.Lists.{numbersBelow}
 use Rattle.model.specs.Reading.{Bytes, versionSaid, pointsSaid, homeSaid, zonesSaid, endA, endB, carrierIn, headingIn, trackSaid, positionSaid, refusal}
 use Rattle.rules.specs.Key.{keyOf}
+use Rattle.rules.specs.SearchCount.{searched}
 use Rattle.rules.specs.Collapse.{collapseOf}
 use Rattle.rules.specs.Sheet.{markOf}
 
@@ -36,9 +37,10 @@ pub record SameInVersion2 (b d : List ℕ) : Type 0 where
   pub same : SaySame b d
   pub bytes : Bytes b → Bytes d
 
--- key, collapse and mark answer both boards alike, for every room and every sheet
+-- key, collapse and mark answer both boards alike, for every room and every sheet, and their search count is one
 pub record SameAnswers (b d : List ℕ) : Type 0 where
   pub key : (planRoom listRoom : ℕ) → keyOf b planRoom listRoom ≡ keyOf d planRoom listRoom
+  pub searched : searched (trackSaid b) (positionSaid b) ≡ searched (trackSaid d) (positionSaid d)
   pub collapse : (listRoom : ℕ) → collapseOf b listRoom ≡ collapseOf d listRoom
   pub mark : (sheet : List ℕ) → markOf b sheet ≡ markOf d sheet
 

@@ -60,7 +60,7 @@ returns-2 c =
     let called = c .before .before .before .before .before in
     let read = called .before .before .before .before .before .before in
     let s = said (read .before .before .before .read-into .ensures) (read .if1 .left) in
-    (key-promised (bytes (read .before .before .before)) s (called .key .ensures .0), summary-promised (called .key .result .verdict) s (called .key .ensures .1 .0))
+    (key-promised (bytes (read .before .before .before)) s (called .key .ensures .0) (called .key .ensures .1 .1 .0), summary-promised (called .key .result .verdict) s (called .key .ensures .1 .0))
 
 pub key-spec : {M : Type 1} → statement M
 key-spec =

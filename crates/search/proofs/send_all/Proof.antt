@@ -1,21 +1,22 @@
--- `send_all` meets its contract: it stores the plan of the key's run, and leaves the run's last position.
--- The invariant: what is stored and the run from here make the whole run (laws of Sends). The measure is how many carriers are out.
+-- `send_all` meets its contract: it stores the plan of the key's run, leaves the run's last position, and gives the search count.
+-- The invariant: what is stored and the run from here make the whole run, and so for what is counted (laws of Sends). The measure is how many carriers are out.
+use Prim.Native.Nat.{_<_}
 use mathlib.Core.Path.{_∙_}
 use native.Mathlib.Omega.{arith}
 use denote.Ref.{now}
 use Rattle.model.specs.Track.{trackOf}
 use borrow.Author.Needs.{needs}
 use Rattle.search.specs.declared.Goes.the-variants.{Nobody}
-use Rattle.search.proofs.Sends.{Underway, underway-starts, underway-done, underway-nobody, sought-at, OneGoes, goes-inside, goes-few, goes-blocks, goes-number, goes-entry, goes-more}
+use Rattle.search.proofs.Sends.{Underway, underway-starts, underway-done, underway-few, underway-nobody, sought-at, OneGoes, goes-inside, goes-few, goes-blocks, goes-number, goes-entry, goes-more}
 use Rattle.search.proofs.send_all.Statement.{statement}
 use Rattle.search.proofs.send_all.Tie as tie
 
 abbrev Inv-loop : tie.InvT-loop
-Inv-loop head ends follows order count words₀ froms₀ free₀ position₀ plan₀ out₀ at₀ words froms free position plan out at =
-    Underway (trackOf head ends) follows order count words₀ froms₀ free₀ position₀ plan₀ words froms free position plan out at
+Inv-loop head ends follows order count words₀ froms₀ free₀ position₀ plan₀ out₀ at₀ searched₀ words froms free position plan out at searched =
+    Underway (trackOf head ends) follows order count words₀ froms₀ free₀ position₀ plan₀ words froms free position plan out at searched
 
 abbrev μ-loop : tie.MeasureT-loop
-μ-loop head ends follows order count words₀ froms₀ free₀ position₀ plan₀ out₀ at₀ words froms free position plan out at = out
+μ-loop head ends follows order count words₀ froms₀ free₀ position₀ plan₀ out₀ at₀ searched₀ words froms free position plan out at searched = out
 
 -- the function's entry, from the head of the loop
 abbrev start : tie.At-loop Inv-loop μ-loop → tie.Start Inv-loop μ-loop
@@ -25,10 +26,18 @@ start h = h .before .before .before .before .before .before .before .before .bef
 abbrev head : tie.After-first-to-go Inv-loop μ-loop → tie.At-loop Inv-loop μ-loop
 head f = f .before .before .before .before .before .before
 
+-- the call of the search, from where its answer is at hand
+abbrev answered : tie.After-struct-known Inv-loop μ-loop → tie.After-first-to-go Inv-loop μ-loop
+answered c = c .before .before .before .before .before
+
+-- some carrier is left
+abbrev left : (f : tie.After-first-to-go Inv-loop μ-loop) → 0 < head f .loop .out
+left f = f .before .before .before .before .before .loop-test .taken
+
 -- where a carrier that goes is known
 module _ (g : tie.After-goes Inv-loop μ-loop) where
   abbrev call : tie.After-first-to-go Inv-loop μ-loop
-  call = g .before .before .before .before .before .before
+  call = answered (g .before .before)
 
   abbrev h : tie.At-loop Inv-loop μ-loop
   h = head call
@@ -39,11 +48,11 @@ module _ (g : tie.After-goes Inv-loop μ-loop) where
   goes :
       OneGoes (trackOf (a .args .head) (now (a .args .ends))) (now (a .args .follows)) (now (a .args .order)) (a .args .count)
       (now (a .args .words)) (now (a .args .froms)) (now (a .args .free)) (now (a .args .position)) (now (a .args .plan))
-      (h .loop .words) (h .loop .froms) (h .loop .free) (h .loop .position) (h .loop .plan) (h .loop .out) (h .loop .at)
-      (call .first-to-go .last .1 .1 .1 .1 .1 .1 .1 .0) (call .first-to-go .last .1 .1 .1 .1 .1 .1 .1 .1 .0) (g .goes .given .0 .0) (g .goes .given .0 .1 .0)
+      (h .loop .words) (h .loop .froms) (h .loop .free) (h .loop .position) (h .loop .plan) (h .loop .out) (h .loop .at) (h .loop .searched)
+      (call .first-to-go .last .1 .1 .1 .1 .1 .1 .1 .0) (call .first-to-go .last .1 .1 .1 .1 .1 .1 .1 .1 .0) (g .goes .given .0 .0) (g .goes .given .0 .1 .0) (call .first-to-go .result .searched)
   goes = record {
     underway = h .loop .inv;
-    some-left = call .before .before .before .before .before .loop-test .taken;
+    some-left = left call;
     same-words = call .first-to-go .kept .1 .1 .1 .1 .1 .1 .1 .0;
     same-froms = call .first-to-go .kept .1 .1 .1 .1 .1 .1 .1 .1 .0;
     sought = sought-at _ (g .goes .given .1) (call .first-to-go .ensures);
@@ -55,31 +64,38 @@ loop-holds c = underway-starts (c .before .before .before .before .before .befor
 first-to-go-requires : tie.Need-first-to-go-requires Inv-loop μ-loop
 first-to-go-requires c κs = c .before .before .before .before .before .loop .inv .seeking
 
+add-searched : tie.Need-add-searched Inv-loop μ-loop
+add-searched c = omega (arith, underway-few (head (answered c) .loop .inv) (left (answered c)) (answered c .first-to-go .ensures))
+
 enum-known-goes : tie.Need-enum-known-goes Inv-loop μ-loop
 enum-known-goes c = search needs
 
 enum-told : tie.Need-enum-told Inv-loop μ-loop
 enum-told c = search needs
 
+-- where nobody goes
+abbrev told : tie.After-enum-told Inv-loop μ-loop → tie.After-first-to-go Inv-loop μ-loop
+told c = answered (c .before .before)
+
 same-length : tie.Need-same-length Inv-loop μ-loop
-same-length c = c .before .before .before .before .before .before .first-to-go .kept .1 .1 .1 .1 .1 .1 .1 .0 ∙ head (c .before .before .before .before .before .before) .loop .inv .same-words
+same-length c = told c .first-to-go .kept .1 .1 .1 .1 .1 .1 .1 .0 ∙ head (told c) .loop .inv .same-words
 
 same-length-2 : tie.Need-same-length-2 Inv-loop μ-loop
-same-length-2 c = c .before .before .before .before .before .before .first-to-go .kept .1 .1 .1 .1 .1 .1 .1 .1 .0 ∙ head (c .before .before .before .before .before .before) .loop .inv .same-froms
+same-length-2 c = told c .first-to-go .kept .1 .1 .1 .1 .1 .1 .1 .1 .0 ∙ head (told c) .loop .inv .same-froms
 
 same-length-3 : tie.Need-same-length-3 Inv-loop μ-loop
-same-length-3 c = head (c .before .before .before .before .before .before) .loop .inv .same-free
+same-length-3 c = head (told c) .loop .inv .same-free
 
 same-length-4 : tie.Need-same-length-4 Inv-loop μ-loop
-same-length-4 c = head (c .before .before .before .before .before .before) .loop .inv .same-position
+same-length-4 c = head (told c) .loop .inv .same-position
 
 same-length-5 : tie.Need-same-length-5 Inv-loop μ-loop
-same-length-5 c = head (c .before .before .before .before .before .before) .loop .inv .same-plan
+same-length-5 c = head (told c) .loop .inv .same-plan
 
 returns : tie.Need-returns Inv-loop μ-loop
 returns c =
-    underway-nobody (head (c .before .before .before .before .before .before) .loop .inv)
-    (sought-at Nobody (c .enum-told .given .1) (c .before .before .before .before .before .before .first-to-go .ensures))
+    underway-nobody (head (told c) .loop .inv) (left (told c))
+    (sought-at Nobody (c .enum-told .given .1) (told c .first-to-go .ensures))
 
 mul-write-entry : tie.Need-mul-write-entry Inv-loop μ-loop
 mul-write-entry c = omega (arith, goes-few (goes (c .before)))
@@ -136,6 +152,7 @@ send-all-spec =
     μ-loop
     loop-holds
     first-to-go-requires
+    add-searched
     enum-known-goes
     enum-told
     same-length

@@ -5,7 +5,7 @@ use borrow.Author.Needs.{needs}
 use native.Mathlib.Omega.{arith}
 use denote.Ref.{now}
 use Rattle.exam.proofs.ReadyLaws.{room-small}
-use Rattle.exam.proofs.KeyGivenLaws.{given-10, given-11, Enough, enough, sendable, last-listable, given-key, given-summary, given-position}
+use Rattle.exam.proofs.KeyGivenLaws.{given-10, given-11, Enough, enough, sendable, last-listable, given-key, given-summary, given-searched, given-position}
 use Rattle.exam.proofs.parsed.key.Statement.{statement}
 use Rattle.exam.proofs.parsed.key.Tie as tie
 
@@ -32,13 +32,13 @@ same-length : tie.Need-same-length
 same-length c = search needs
 
 returns : tie.Need-returns
-returns c = (given-10 _ _ _ _ (c .before .before .count-out .ensures) (c .if1 .taken), (refl, refl))
+returns c = (given-10 _ _ _ _ (c .before .before .count-out .ensures) (c .if1 .taken), (refl, (refl, refl)))
 
 same-length-2 : tie.Need-same-length-2
 same-length-2 c = search needs
 
 returns-2 : tie.Need-returns-2
-returns-2 c = (given-11 _ _ _ _ (c .before .before .before .count-out .ensures) (c .before .if1 .left) (c .if2 .taken), (refl, refl))
+returns-2 c = (given-11 _ _ _ _ (c .before .before .before .count-out .ensures) (c .before .if1 .left) (c .if2 .taken), (refl, (refl, refl)))
 
 send-home-requires : tie.Need-send-home-requires
 send-home-requires c κs = sendable (room (c .before .before)) (entry (c .before .before .before .before .before) .pre)
@@ -69,7 +69,10 @@ returns-3 c =
       given-key (room past) (sent .send-home .ensures) (listed .list-out .ensures) (c .verdict .ensures),
       (
         given-summary (room past) (sent .send-home .ensures) (listed .list-out .ensures) (c .verdict .ensures) (past .before .before .before .count-out .ensures),
-        given-position (room past) (sent .send-home .ensures) (listed .list-out .ensures) (c .verdict .ensures) (entry (past .before .before .before) .pre),
+        (
+          given-searched (room past) (sent .send-home .ensures) (listed .list-out .ensures) (c .verdict .ensures),
+          given-position (room past) (sent .send-home .ensures) (listed .list-out .ensures) (c .verdict .ensures) (entry (past .before .before .before) .pre),
+        ),
       ),
     )
 

@@ -1,0 +1,1 @@
+// Theorems alone: what the search count counts, and how large it can be. See specs/ and proofs/.

@@ -70,6 +70,8 @@ pub fn key(
         };
     }
     let sent = search::send_home(head, ends, position, plan);
+    let planned = sent.planned;
+    let searched = sent.searched;
     let blocked = carriers::list_out(position, list);
     let summary = Summary {
         points: head.points,
@@ -78,9 +80,9 @@ pub fn key(
     };
     KeyResult {
         verdict: verdict(blocked),
-        planned: sent.planned,
+        planned: planned,
         listed: blocked,
-        searched: sent.searched,
+        searched: searched,
         summary: summary,
     }
 }

@@ -72,7 +72,7 @@ fn nth(numbers: &[u16], i: usize) -> usize {
 }
 
 fn run_key(bytes: &[u8], numbers: &[u16]) {
-    let mut plan = [60000u16; 24];
+    let mut plan = [60000u16; 40];
     let mut list = [60000u16; 4];
     let plan_room = numbers_in(nth(numbers, 0), &plan);
     let list_room = numbers_in(nth(numbers, 1), &list);

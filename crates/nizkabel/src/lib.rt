@@ -17,7 +17,8 @@ pub extern "C" fn nizkabel_key(
     let key = exam::key(board, plan, list);
     let planned = key.planned as u32;
     let listed = key.listed as u32;
-    *out = [planned, listed, key.searched];
+    let searched = key.searched;
+    *out = [planned, listed, searched];
     key.verdict
 }
 

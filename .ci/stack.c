@@ -11,7 +11,7 @@ static volatile unsigned char stack[1 << 20];
 static ucontext_t here, there;
 static uint16_t plan[NIZKABEL_PLAN_ROOM];
 static uint16_t list[NIZKABEL_LIST_ROOM];
-static uint32_t out[2];
+static uint32_t out[3];
 
 /* K, whose carrier goes home, with its plan as a sheet; the far loop, with the sheet that says who is blocked there; T in version 2 with 7 and
  * 263, whose low bytes are equal. */

@@ -6,7 +6,7 @@ int main(void) {
     const uint8_t board[] = {0x00, 0x0C, 1, 2, 0, 2, 0, 1, 7, 0, 0, 1, 0, 0};
     uint16_t plan[NIZKABEL_PLAN_ROOM];
     uint16_t list[NIZKABEL_LIST_ROOM];
-    uint32_t out[2];
+    uint32_t out[3];
     uint32_t verdict = nizkabel_key(board, sizeof board, plan, NIZKABEL_PLAN_ROOM, list, NIZKABEL_LIST_ROOM, out);
     printf("verdict %u, plan", verdict);
     for (uint32_t i = 0; i < out[0]; i++) {

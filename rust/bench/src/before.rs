@@ -4,18 +4,19 @@ use crate::{row, times};
 use std::ffi::c_void;
 use std::hint::black_box;
 
-// As in include/nizkabel.h, but that the older list has bytes or words.
+// As in include/nizkabel.h, but that the older list has bytes or words, and the key's out two numbers or three.
 extern "C" {
     fn before_nizkabel_key(board: *const u8, board_len: usize, plan: *mut u16, plan_len: usize, list: *mut c_void, list_len: usize, out: *mut u32) -> u32;
     fn before_nizkabel_collapse(board: *const u8, board_len: usize, list: *mut c_void, list_len: usize, out: *mut u32) -> u32;
     fn before_nizkabel_mark(board: *const u8, board_len: usize, sheet: *const u16, sheet_len: usize) -> u32;
 }
 
+/// Verdict, words of the plan and numbers in the list, which every build gives.
 fn key(board: &[u8], plan: &mut [u16], list: &mut [u16]) -> [u32; 3] {
-    let mut out = [0u32; 2];
+    let mut out = [0u32; 3];
     let list_start: *mut c_void = list.as_mut_ptr().cast();
     // SAFETY: each pointer comes with the length of the slice that it points to, whose elements are no smaller than those asked for, and out
-    // has two elements.
+    // has no fewer elements than any build writes.
     let verdict = unsafe { before_nizkabel_key(board.as_ptr(), board.len(), plan.as_mut_ptr(), plan.len(), list_start, list.len(), out.as_mut_ptr()) };
     [verdict, out[0], out[1]]
 }

@@ -7,7 +7,7 @@ mod before;
 mod port;
 
 use compare::{boards::{self, Loops}, random::Random};
-use second::{Board, Zone};
+use second::Board;
 use std::hint::black_box;
 use std::time::Instant;
 
@@ -30,22 +30,6 @@ fn median(mut numbers: Vec<f64>) -> f64 {
     numbers[numbers.len() / 2]
 }
 
-/// A long held exit whose carriers have the highest numbers, the nearest home the highest of all, and a free loop with a low-numbered
-/// carrier beside each of its zones: every round tries them all in vain.
-fn worst() -> Board {
-    let (exit, around) = (24, 36);
-    let mut zones = Vec::new();
-    for i in 0..exit {
-        zones.push(Zone { a: i, b: i + 1, carrier: (200 - i) as u32, heading: 1 });
-    }
-    for i in 0..around {
-        let (a, b) = (exit + i, if i + 1 == around { exit } else { exit + i + 1 });
-        zones.push(Zone { a, b, carrier: 0, heading: 0 });
-        zones.push(Zone { a, b, carrier: 1 + i as u32, heading: (i % 2) as u32 });
-    }
-    Board { points: exit + around, home: 0, zones }
-}
-
 /// The boards with every carrier renumbered to over 255, for which version 2 alone has room. The numbers' order stays, and so do the routes.
 fn renumbered(boards: &[Board], number: impl Fn(u32) -> u32) -> Vec<Board> {
     let mut boards = boards.to_vec();
@@ -55,16 +39,21 @@ fn renumbered(boards: &[Board], number: impl Fn(u32) -> u32) -> Vec<Board> {
     boards
 }
 
-/// The library and the port give the same, before either is timed; the sheet is right.
+/// The library and the port, by both of its searches, give the same, before any of them is timed; the sheet is right.
 fn agree(board: &[u8], sheet: &[u16]) {
-    let (mut plan, mut list) = (vec![0u16; 96 * 194], vec![0u16; 96]);
-    let (mut port_plan, mut port_list) = (plan.clone(), list.clone());
+    let rooms = || (vec![0u16; 96 * 194], vec![0u16; 96]);
+    let (mut plan, mut list) = rooms();
     let key = nizkabel::key(board, &mut plan, &mut list);
-    assert_eq!((key.verdict, key.planned, key.listed), port::key(board, &mut port_plan, &mut port_list, false));
-    assert_eq!((&plan, &list), (&port_plan, &port_list));
-    let collapse = nizkabel::collapse(board, &mut list);
-    assert_eq!((collapse.number, collapse.listed), port::collapse(board, &mut port_list));
-    assert_eq!(list, port_list);
+    for scan in [false, true] {
+        let (mut port_plan, mut port_list) = rooms();
+        let port_key = port::key(board, &mut port_plan, &mut port_list, scan);
+        assert_eq!((key.verdict, key.planned, key.listed, key.searched), port_key);
+        assert_eq!((&plan, &list), (&port_plan, &port_list));
+    }
+    let ((_, mut left), (_, mut port_left)) = (rooms(), rooms());
+    let collapse = nizkabel::collapse(board, &mut left);
+    assert_eq!((collapse.number, collapse.listed), port::collapse(board, &mut port_left));
+    assert_eq!(left, port_left);
     assert_eq!((nizkabel::mark(board, sheet), port::mark(board, sheet)), (0, 0));
 }
 
@@ -133,7 +122,7 @@ fn main() {
     group("small", &small, 100);
     group("large", &large, 100);
     group("full", &full, 100);
-    group("worst", &vec![worst(); 20], 40);
+    group("worst", &vec![boards::worst(); 20], 40);
     group("loops", &about_90_zones(4, Loops::OnceIn(2)), 100);
     // In version 2; on the last boards all carriers have one low byte.
     group("small 2", &renumbered(&small, |c| c + 256), 100);

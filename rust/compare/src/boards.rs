@@ -1,4 +1,5 @@
-//! Random boards: accepted ones of every density, with carriers' numbers of every kind, and damaged ones.
+//! Random boards: accepted ones of every density, with carriers' numbers of every kind, and damaged ones; every small board; and one that is
+//! long to search.
 
 use crate::random::Random;
 use second::{Board, Zone};
@@ -59,6 +60,22 @@ pub fn accepted(random: &mut Random, points: usize, zones: usize, sparse: usize,
         })
         .collect();
     Board { points, home, zones }
+}
+
+/// A long held exit whose carriers have the highest numbers, the nearest home the highest of all, and a free loop with a low-numbered
+/// carrier beside each of its zones: every round tries them all in vain.
+pub fn worst() -> Board {
+    let (exit, around) = (24, 36);
+    let mut zones = Vec::new();
+    for i in 0..exit {
+        zones.push(Zone { a: i, b: i + 1, carrier: (200 - i) as u32, heading: 1 });
+    }
+    for i in 0..around {
+        let (a, b) = (exit + i, if i + 1 == around { exit } else { exit + i + 1 });
+        zones.push(Zone { a, b, carrier: 0, heading: 0 });
+        zones.push(Zone { a, b, carrier: 1 + i as u32, heading: (i % 2) as u32 });
+    }
+    Board { points: exit + around, home: 0, zones }
 }
 
 /// How the carriers are numbered.

@@ -1,9 +1,10 @@
-//! Compares the proved library with the second implementation on many boards and sheets, whole: numbers, lengths, every word of plan and
-//! list, and canaries past what may be written. Ends with status 1 at the first difference.
+//! Compares the proved library with the second implementation on many boards and sheets, whole: numbers, lengths, search counts, every word of
+//! plan and list, and canaries past what may be written. Ends with status 1 at the first difference.
 
 mod blocked;
 mod gate;
 mod loops;
+mod searched;
 mod versions;
 
 use blocked::BlockedTally;
@@ -12,7 +13,8 @@ use compare::random::Random;
 use compare::sheets;
 use gate::GateTally;
 use loops::LoopTally;
-use second::{Board, Rule};
+use searched::SearchTally;
+use second::{Board, Key, Rule};
 use versions::{answers, Answers, VersionTally};
 
 const SEED: u64 = 20_261_115;
@@ -31,6 +33,8 @@ struct Tally {
     gate: GateTally,
     blocked: BlockedTally,
     versions: VersionTally,
+    searched: SearchTally,
+    small_searched: SearchTally,
     verdicts: std::collections::BTreeMap<u32, usize>,
     marks: std::collections::BTreeMap<u32, usize>,
 }
@@ -52,11 +56,20 @@ fn whole(words: impl IntoIterator<Item = u16>, room: usize, canary: u16) -> Vec<
     whole
 }
 
-/// The key and the collapse with this room lent. The home gate changes no key.
-fn compare_key(tally: &mut Tally, bytes: &[u8], plan_room: usize, list_room: usize) {
+/// The most that a search count can be on a board in bytes: Z × C × (C + 1), and 0 where it is refused.
+fn most_searched(bytes: &[u8]) -> usize {
+    second::read(bytes).map_or(0, |board| {
+        let out = board.carriers().len();
+        board.zones.len() * out * (out + 1)
+    })
+}
+
+/// The key and the collapse with this room lent. Gives the keys by the home gate's rule and by the older one: the gate changes no verdict, plan or
+/// list, and lets no more words be reached.
+fn compare_key(tally: &mut Tally, bytes: &[u8], plan_room: usize, list_room: usize) -> [Key; 2] {
     let expected = second::key(bytes, plan_room, list_room);
     let older = second::key_by(Rule::Older, bytes, plan_room, list_room);
-    if older != expected {
+    if older.answer() != expected.answer() || older.searched < expected.searched {
         differ("key by the older rule", bytes, format!("older {older:?}\nnow {expected:?}"));
     }
     let mut plan = whole([], plan_room, PLAN_CANARY);
@@ -64,8 +77,9 @@ fn compare_key(tally: &mut Tally, bytes: &[u8], plan_room: usize, list_room: usi
     let got = nizkabel::key(bytes, &mut plan[..plan_room], &mut list[..list_room]);
     let whole_plan = whole(expected.plan.iter().copied(), plan_room, PLAN_CANARY);
     let whole_list = whole(expected.list.iter().map(|&c| c as u16), list_room, LIST_CANARY);
-    let same = got.verdict == expected.verdict && got.planned == expected.plan.len() && got.listed == expected.list.len();
-    if !same || plan != whole_plan || list != whole_list {
+    let (planned, listed) = (expected.plan.len(), expected.list.len());
+    let same = got == nizkabel::Key { verdict: expected.verdict, planned, listed, searched: expected.searched };
+    if !same || plan != whole_plan || list != whole_list || most_searched(bytes) < got.searched as usize {
         differ("key", bytes, format!("expected {expected:?}\ngot {got:?}\nplan {plan:?}\nlist {list:?}"));
     }
     *tally.verdicts.entry(got.verdict).or_default() += 1;
@@ -77,6 +91,7 @@ fn compare_key(tally: &mut Tally, bytes: &[u8], plan_room: usize, list_room: usi
     if got.number != number || got.listed != left.len() || list != whole_list {
         differ("collapse", bytes, format!("expected {number} {left:?}\ngot {got:?}\nlist {list:?}"));
     }
+    [expected, older]
 }
 
 fn compare_mark(tally: &mut Tally, bytes: &[u8], sheet: &[u16]) {
@@ -140,8 +155,7 @@ fn compare_alone(tally: &mut Tally, random: &mut Random, board: &Board) {
         (zone.carrier, zone.heading) = if z == word / 2 { (carrier, (word % 2) as u32) } else { (0, 0) };
     }
     let bytes = boards::written(random, &alone);
-    compare_key(tally, &bytes, 2 + board.words(), 1);
-    let key = second::key(&bytes, 2 + board.words(), 1);
+    let [key, _] = compare_key(tally, &bytes, 2 + board.words(), 1);
     if key.verdict != 0 {
         differ("a carrier alone out is blocked", &bytes, format!("{key:?}"));
     }
@@ -158,7 +172,8 @@ fn compare_board(tally: &mut Tally, random: &mut Random, board: &Board) {
     if second::read(&bytes).as_ref() != Ok(board) {
         differ("the generator made a board that is not accepted", &bytes, String::new());
     }
-    compare_key(tally, &bytes, room + random.below(3), out + random.below(3));
+    let keys = compare_key(tally, &bytes, room + random.below(3), out + random.below(3));
+    tally.searched.add(board, &keys);
     if random.once_in(8) {
         compare_key(tally, &bytes, room.saturating_sub(1), out.saturating_sub(random.below(2)));
         compare_key(tally, &bytes, room, out.saturating_sub(1));
@@ -190,17 +205,18 @@ fn compare_board(tally: &mut Tally, random: &mut Random, board: &Board) {
 /// Small boards against every order, every route by either rule and, where every zone is held, every position of single moves.
 fn compare_exhaustive(tally: &mut Tally, board: &Board) {
     let bytes = board.bytes();
-    let expected = second::key(&bytes, 10_000, 255);
+    let left = second::left(board);
     for rule in [Rule::HomeGate, Rule::Older] {
+        let expected = second::key_by(rule, &bytes, 10_000, 255);
         let found = second::key_by_enumeration(rule, board);
-        if found.key != expected || found.ordered != (expected.verdict == 0) || second::left(board) != expected.list {
+        if found.key != expected || found.ordered != (expected.verdict == 0) || left != expected.list {
             differ("the second implementation with itself", &bytes, format!("{rule:?} {:?}\n{:?}", found.key, expected));
         }
     }
     if board.zones.iter().all(|z| z.carrier != 0) {
         tally.full += 1;
         tally.loops.full += board.zones.iter().any(|z| z.is_loop()) as usize;
-        if !second::all_positions_keep(board, &expected.list) {
+        if !second::all_positions_keep(board, &left) {
             differ("a named carrier moved on a full board", &bytes, String::new());
         }
     }
@@ -214,12 +230,13 @@ fn compare_small(tally: &mut Tally, board: &Board) {
     let accepted = second::read(&bytes).is_ok();
     tally.boards += 1;
     tally.accepted += accepted as usize;
-    compare_key(tally, &bytes, 24, 3);
-    let key = second::key(&bytes, 24, 3);
-    let sheet = if key.list.is_empty() { [vec![0], key.plan].concat() } else { sheets::claim(&key.list) };
+    let keys = compare_key(tally, &bytes, 24, 3);
+    let [Key { plan, list, .. }, _] = &keys;
+    let sheet = if list.is_empty() { [&[0], &plan[..]].concat() } else { sheets::claim(list) };
     compare_mark(tally, &bytes, &sheet);
     tally.versions.small_in_both += compare_versions(board, 24, 3, &[sheet]);
     if accepted {
+        tally.small_searched.add(board, &keys);
         count_blocked(tally, board);
         compare_exhaustive(tally, board);
         for carrier in board.carriers() {
@@ -287,6 +304,7 @@ fn main() {
         count_bytes(&mut tally, &bytes);
         compare_key(&mut tally, &bytes, 8, 8);
     }
+    compare_board(&mut tally, &mut random, &boards::worst());
     if !tally.loops.fair() {
         println!("too few boards or sheets with turning loops of some kind: {:?}", tally.loops);
         std::process::exit(1);
@@ -303,6 +321,10 @@ fn main() {
         println!("too few boards of some kind by their version or their carriers' numbers: {:?}", tally.versions);
         std::process::exit(1);
     }
+    if !tally.searched.fair(10) || tally.searched.large == 0 || !tally.small_searched.fair(1) {
+        println!("too few boards of some kind by their search count: {:?}, small ones {:?}", tally.searched, tally.small_searched);
+        std::process::exit(1);
+    }
     println!(
         "{} boards ({} accepted), {} sheets ({} passed), {} boards by exhaustion, {} of them full: no difference",
         tally.boards, tally.accepted, tally.sheets, tally.passed, tally.exhaustive, tally.full
@@ -311,6 +333,7 @@ fn main() {
     println!("sheets that the home gate turns to 32: {:?}", tally.gate);
     println!("blocked carriers: {:?}", tally.blocked);
     println!("versions: {:?}", tally.versions);
+    println!("search counts: {:?}, small boards {:?}", tally.searched, tally.small_searched);
     println!("verdicts {:?}", tally.verdicts);
     println!("marks {:?}", tally.marks);
 }

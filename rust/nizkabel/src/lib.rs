@@ -8,7 +8,7 @@
 //! let mut plan = [0u16; nizkabel::PLAN_ROOM];
 //! let mut list = [0u16; nizkabel::LIST_ROOM];
 //! let key = nizkabel::key(&board, &mut plan, &mut list);
-//! assert_eq!((key.verdict, key.planned, key.listed), (0, 4, 0));
+//! assert_eq!((key.verdict, key.planned, key.listed, key.searched), (0, 4, 0, 2));
 //! assert_eq!(plan[..key.planned], [7, 2, 0, 3]);
 //! assert_eq!(nizkabel::mark(&board, &[0, 7, 2, 0, 3]), 0);
 //! ```
@@ -22,12 +22,16 @@ pub const PLAN_ROOM: usize = 18_624;
 pub const LIST_ROOM: usize = 96;
 
 /// What the key gives: the verdict (0 ordered, 20 some carrier blocked, 1 to 11 turned back), the count of words written to
-/// the plan, the count of numbers written to the list.
+/// the plan, the count of numbers written to the list, and the search count, which tells how hard the board is to search: the words that a
+/// carrier reaches from its standing, that one included and none past home, while the others stand still, summed over all tries, lowest first in
+/// each round up to the carrier that goes, and in the last round all that are left. With Z zones and C carriers out it is at most
+/// Z × C × (C + 1); on 1 to 11 it is 0.
 #[derive(Clone, Copy, Debug, PartialEq, Eq)]
 pub struct Key {
     pub verdict: u32,
     pub planned: usize,
     pub listed: usize,
+    pub searched: u32,
 }
 
 /// What the collapse gives: its number (0, or 1 to 9 or 11), and the count of numbers written to the list.
@@ -46,10 +50,10 @@ extern "C" {
 
 /// Draws the key. Past what is written, and on 1 to 11, plan and list stay as they were.
 pub fn key(board: &[u8], plan: &mut [u16], list: &mut [u16]) -> Key {
-    let mut out = [0u32; 2];
-    // SAFETY: each pointer comes with the length of the slice that it points to, and out has two elements.
+    let mut out = [0u32; 3];
+    // SAFETY: each pointer comes with the length of the slice that it points to, and out has three elements.
     let verdict = unsafe { nizkabel_key(board.as_ptr(), board.len(), plan.as_mut_ptr(), plan.len(), list.as_mut_ptr(), list.len(), out.as_mut_ptr()) };
-    Key { verdict, planned: out[0] as usize, listed: out[1] as usize }
+    Key { verdict, planned: out[0] as usize, listed: out[1] as usize, searched: out[2] }
 }
 
 /// Collapses the board. Past what is written, and on 1 to 11, the list stays as it was.

@@ -14,6 +14,8 @@
 //! }
 //! assert_eq!(key.entries[1].words, [0, 3]);
 //! assert!(key.blocked.is_empty());
+//! // 7 is tried twice: at first it reaches its standing alone.
+//! assert_eq!(key.searched, 1 + 1 + 2);
 //!
 //! let refused = owned::key(&board[..13]).unwrap_err();
 //! assert_eq!(refused.number(), 2);
@@ -33,12 +35,13 @@ pub struct Entry {
 }
 
 /// The key of an accepted board: the verdict (0 ordered, 20 some carrier blocked), the carriers that go home in their
-/// order, and the blocked ones ascending.
+/// order, the blocked ones ascending, and the search count of [`crate::Key`].
 #[derive(Clone, Debug, PartialEq, Eq)]
 pub struct Key {
     pub verdict: u32,
     pub entries: Vec<Entry>,
     pub blocked: Vec<u16>,
+    pub searched: u32,
 }
 
 /// Why a board isn't accepted: a number from 1 to 9.
@@ -89,7 +92,7 @@ pub fn key(board: &[u8]) -> Result<Key, Refused> {
         entries.push(Entry { carrier: *carrier, words: words.to_vec() });
         rest = next;
     }
-    Ok(Key { verdict: key.verdict, entries, blocked })
+    Ok(Key { verdict: key.verdict, entries, blocked, searched: key.searched })
 }
 
 /// The carriers that the collapse leaves, ascending.

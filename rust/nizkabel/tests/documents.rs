@@ -2,7 +2,7 @@
 
 use nizkabel::owned::{self, Entry, Refused};
 use second::document_01::{k, refused, starred, SHEETS_FOR_K};
-use second::document_02::{at_gate, held, loops_refused, one_blocked, to_loop, turning_loops, two_zones, SHEETS_FOR_LOOP};
+use second::document_02::{at_gate, held, loops_refused, one_blocked, searched, searches, to_loop, turning_loops, two_zones, SHEETS_FOR_LOOP};
 use second::document_02::{versions_refused, wide_carriers, wide_sheets, wide_t};
 
 fn plan(entries: &[Entry]) -> Vec<u16> {
@@ -11,7 +11,7 @@ fn plan(entries: &[Entry]) -> Vec<u16> {
 
 #[test]
 fn boards() {
-    for (row, verdict, words, blocked) in starred().into_iter().chain(turning_loops()).chain(two_zones()).chain(wide_carriers()) {
+    for (row, verdict, words, blocked) in starred().into_iter().chain(turning_loops()).chain(two_zones()).chain(wide_carriers()).chain(searches()) {
         for board in second::read(&row).unwrap().in_each_version() {
             let key = owned::key(&board).unwrap();
             assert_eq!((key.verdict, &plan(&key.entries)[..], &key.blocked[..]), (verdict, words, blocked));
@@ -22,9 +22,24 @@ fn boards() {
     }
 }
 
+#[test]
+fn search_counts() {
+    for (row, count, _) in searched() {
+        for board in second::read(&row).unwrap().in_each_version() {
+            assert_eq!(owned::key(&board).unwrap().searched, count);
+        }
+    }
+}
+
+/// What the key gives where it is turned back.
+fn turned_back(verdict: u32) -> nizkabel::Key {
+    nizkabel::Key { verdict, planned: 0, listed: 0, searched: 0 }
+}
+
 fn refusal(board: &[u8], number: u32) -> Refused {
     let refused = owned::key(board).unwrap_err();
     assert_eq!(refused.number(), number);
+    assert_eq!(nizkabel::key(board, &mut [], &mut []), turned_back(number));
     assert_eq!(owned::collapse(board), Err(refused));
     assert_eq!(owned::mark(board, &[0]), Err(refused));
     refused
@@ -66,11 +81,11 @@ fn marks() {
 fn short_rooms() {
     let k = k();
     let (mut plan, mut list) = ([9; 6], [9; 1]);
-    assert_eq!(nizkabel::key(&k, &mut plan[..5], &mut list), nizkabel::Key { verdict: 10, planned: 0, listed: 0 });
-    assert_eq!(nizkabel::key(&k, &mut plan, &mut []), nizkabel::Key { verdict: 11, planned: 0, listed: 0 });
+    assert_eq!(nizkabel::key(&k, &mut plan[..5], &mut list), turned_back(10));
+    assert_eq!(nizkabel::key(&k, &mut plan, &mut []), turned_back(11));
     assert_eq!(nizkabel::collapse(&k, &mut []), nizkabel::Collapse { number: 11, listed: 0 });
     assert_eq!((plan, list), ([9; 6], [9; 1]));
-    assert_eq!(nizkabel::key(&k, &mut plan, &mut list), nizkabel::Key { verdict: 0, planned: 4, listed: 0 });
+    assert_eq!(nizkabel::key(&k, &mut plan, &mut list), nizkabel::Key { verdict: 0, planned: 4, listed: 0, searched: 2 });
     assert_eq!((plan, list), ([7, 2, 0, 3, 9, 9], [9; 1]));
 }
 
@@ -79,10 +94,10 @@ fn short_rooms() {
 fn list_words() {
     let board = wide_t((7, 0), (263, 0));
     let (mut plan, mut list) = ([9; 12], [9; 3]);
-    assert_eq!(nizkabel::key(&board, &mut plan, &mut list[..1]), nizkabel::Key { verdict: 11, planned: 0, listed: 0 });
+    assert_eq!(nizkabel::key(&board, &mut plan, &mut list[..1]), turned_back(11));
     assert_eq!(nizkabel::collapse(&board, &mut list[..1]), nizkabel::Collapse { number: 11, listed: 0 });
     assert_eq!((plan, list), ([9; 12], [9; 3]));
-    assert_eq!(nizkabel::key(&board, &mut plan, &mut list), nizkabel::Key { verdict: 20, planned: 0, listed: 2 });
+    assert_eq!(nizkabel::key(&board, &mut plan, &mut list), nizkabel::Key { verdict: 20, planned: 0, listed: 2, searched: 2 });
     assert_eq!((plan, list), ([9; 12], [7, 263, 9]));
     list = [9; 3];
     assert_eq!(nizkabel::collapse(&board, &mut list), nizkabel::Collapse { number: 0, listed: 2 });
@@ -97,6 +112,7 @@ fn the_largest_boards() {
         let key = owned::key(&board).unwrap();
         let expected = if heading == 1 { (0, 96, 0) } else { (20, 0, 96) };
         assert_eq!((key.verdict, key.entries.len(), key.blocked.len()), expected);
+        assert_eq!(key.searched, second::key(&board, nizkabel::PLAN_ROOM, nizkabel::LIST_ROOM).searched);
         assert_eq!(owned::collapse(&board).unwrap(), key.blocked);
     }
 }

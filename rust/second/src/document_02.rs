@@ -1,6 +1,6 @@
 //! Boards and sheets of the requests of document 02 with what they give, for the tests of this implementation and of the wrapper.
 
-use crate::document_01::{k, t, Row};
+use crate::document_01::{far_loop, k, t, turn, Row};
 
 /// A board with home 0, so many points, and for each zone its bytes: four in version 1, five in version 2.
 fn laid_out<const N: usize>(points: u8, zones: &[[u8; N]]) -> Vec<u8> {
@@ -187,5 +187,42 @@ pub fn wide_sheets() -> Vec<(Vec<u8>, &'static [u16], u32)> {
         (blocked.clone(), &[1, 7, 7], 35),
         (blocked.clone(), &[1, 263, 7], 35),
         (blocked, &[1, 7], 35),
+    ]
+}
+
+/// Carrier 5 can go home straight on, or run on into a loop.
+fn beside_a_loop() -> Vec<u8> {
+    laid_out(3, &[[0, 1, 5, 0], [0, 1, 0, 0], [1, 2, 0, 0], [1, 2, 0, 0]])
+}
+
+/// The far loop with a fifth zone, a turning loop at home where carrier 9 stands.
+fn far_loop_with_9() -> Vec<u8> {
+    laid_out(4, &[[0, 1, 5, 0], [1, 2, 6, 0], [2, 3, 0, 0], [2, 3, 0, 0], [0, 0, 9, 0]])
+}
+
+/// Request j: accepted boards on which a search goes on past an arrival, or others are tried again in vain once a carrier is home.
+pub fn searches() -> Vec<Row> {
+    vec![(beside_a_loop(), 0, &[5, 2, 0, 3], &[]), (far_loop_with_9(), 20, &[9, 1, 8], &[5, 6])]
+}
+
+/// A board with its search count, and for each try in turn the carrier and the words that it reaches.
+pub type Searched = (Vec<u8>, u32, &'static [(u32, &'static [usize])]);
+
+/// Request j: what the key's tries reach. On the last board a turning loop is held, and entering it again straight after itself would reach a
+/// word more.
+pub fn searched() -> Vec<Searched> {
+    vec![
+        (t([0, 0], [0, 0]), 0, &[]),
+        (k(), 2, &[(7, &[0, 3])]),
+        (t([7, 1], [9, 1]), 2, &[(7, &[1]), (9, &[3])]),
+        (t([7, 0], [9, 1]), 4, &[(7, &[0]), (9, &[3]), (7, &[0, 3])]),
+        (t([7, 0], [9, 0]), 2, &[(7, &[0]), (9, &[2])]),
+        (turn(0, 0), 6, &[(5, &[0, 1, 2, 3, 4, 5])]),
+        (turn(6, 1), 4, &[(5, &[0, 4]), (6, &[3, 4])]),
+        (far_loop(), 7, &[(5, &[0]), (6, &[2, 3, 4, 5, 6, 7])]),
+        (to_loop([1, 1, 0, 0]), 4, &[(5, &[0, 1, 2, 3])]),
+        (beside_a_loop(), 7, &[(5, &[0, 1, 3, 4, 5, 6, 7])]),
+        (far_loop_with_9(), 15, &[(5, &[0]), (6, &[2, 3, 4, 5, 6, 7]), (9, &[8]), (5, &[0]), (6, &[2, 3, 4, 5, 6, 7])]),
+        (to_loop([1, 1, 6, 0]), 2, &[(5, &[0]), (6, &[2])]),
     ]
 }

@@ -2,16 +2,27 @@
 //! moving rule, the key by tables: for each number of words those words from which exactly so many lead home, through home or not.
 
 use crate::board::{read, Board, Rule};
+use crate::searched::{searched, tries};
 
+/// The key by one of the two rules. The search count is by that rule too: by the older one it has words past home, and document 02 asks for
+/// the home gate's.
 #[derive(Clone, Debug, PartialEq, Eq)]
 pub struct Key {
     pub verdict: u32,
     pub plan: Vec<u16>,
     pub list: Vec<u32>,
+    pub searched: u32,
+}
+
+impl Key {
+    /// Verdict, plan and list, which are the same by both rules.
+    pub fn answer(&self) -> (u32, &[u16], &[u32]) {
+        (self.verdict, &self.plan, &self.list)
+    }
 }
 
 /// For each word those that a carrier may go on by. The home gate takes in every arrival, so with it none follows a word that leaves there.
-fn next_words(rule: Rule, board: &Board, carrier: u32) -> Vec<Vec<usize>> {
+pub(crate) fn next_words(rule: Rule, board: &Board, carrier: u32) -> Vec<Vec<usize>> {
     let goes_on = |w: usize| rule == Rule::Older || !board.leaves_home(w);
     (0..board.words()).map(|w| (0..board.words()).filter(|&v| goes_on(w) && board.may_follow(carrier, w, v)).collect()).collect()
 }
@@ -107,7 +118,7 @@ pub fn key(bytes: &[u8], plan_room: usize, list_room: usize) -> Key {
 
 /// The key by one of the two rules.
 pub fn key_by(rule: Rule, bytes: &[u8], plan_room: usize, list_room: usize) -> Key {
-    let refused = |verdict| Key { verdict, plan: Vec::new(), list: Vec::new() };
+    let refused = |verdict| Key { verdict, plan: Vec::new(), list: Vec::new(), searched: 0 };
     let board = match read(bytes) {
         Err(number) => return refused(number),
         Ok(board) => board,
@@ -121,5 +132,5 @@ pub fn key_by(rule: Rule, bytes: &[u8], plan_room: usize, list_room: usize) -> K
     }
     let (plan, last) = plan_by(rule, &board);
     let list = last.carriers();
-    Key { verdict: verdict(&list), plan, list }
+    Key { verdict: verdict(&list), plan, list, searched: searched(&tries(rule, &board)) }
 }

@@ -1,21 +1,23 @@
 //! The boards and sheets of documents 01 and 02 by the second implementation.
 
 use second::document_01::{k, refused, starred, SHEETS_FOR_K};
-use second::document_02::{at_gate, held, loops_refused, one_blocked, to_loop, turning_loops, two_zones, SHEETS_FOR_LOOP};
+use second::document_02::{at_gate, held, loops_refused, one_blocked, searched, searches, to_loop, turning_loops, two_zones, SHEETS_FOR_LOOP};
 use second::document_02::{versions_refused, wide_carriers, wide_sheets, wide_t};
-use second::{collapse, key, key_by, mark, mark_by, named, read, Board, Rule, Zone};
+use second::{collapse, key, key_by, key_by_enumeration, mark, mark_by, named, read, tries, Board, Key, Rule, Try, Zone};
 
 #[test]
 fn boards() {
-    for (row, verdict, plan, blocked) in starred().into_iter().chain(turning_loops()).chain(two_zones()).chain(wide_carriers()) {
+    for (row, verdict, plan, blocked) in starred().into_iter().chain(turning_loops()).chain(two_zones()).chain(wide_carriers()).chain(searches()) {
         let said = read(&row).unwrap();
         assert!(said.in_each_version().contains(&row));
         for board in said.in_each_version() {
             assert_eq!(read(&board).as_ref(), Ok(&said));
             let drawn = key(&board, 96, 8);
             let list: Vec<u32> = blocked.iter().map(|&c| c.into()).collect();
-            assert_eq!((drawn.verdict, &drawn.plan[..], &drawn.list[..]), (verdict, plan, &list[..]));
-            assert_eq!(key_by(Rule::Older, &board, 96, 8), drawn);
+            assert_eq!(drawn.answer(), (verdict, plan, &list[..]));
+            assert_eq!(key_by(Rule::Older, &board, 96, 8).answer(), drawn.answer());
+            let (zones, out) = (said.zones.len(), said.carriers().len());
+            assert!(drawn.searched as usize <= zones * out * (out + 1));
             assert_eq!(collapse(&board, 8), (0, list));
         }
     }
@@ -39,18 +41,35 @@ fn versions() {
     }
 }
 
+/// Each try of the key with the words that it reaches, by the fixpoint and by enumeration.
+#[test]
+fn search_counts() {
+    for (row, count, expected) in searched() {
+        let said = read(&row).unwrap();
+        let expected: Vec<Try> = expected.iter().map(|&(carrier, words)| Try { carrier, reached: words.to_vec() }).collect();
+        assert_eq!(tries(Rule::HomeGate, &said), expected);
+        assert_eq!(key_by_enumeration(Rule::HomeGate, &said).key.searched, count);
+        for board in said.in_each_version() {
+            assert_eq!(key(&board, 96, 8).searched, count);
+        }
+    }
+    let (past_home, ..) = &searches()[0];
+    assert_eq!(key_by(Rule::Older, past_home, 96, 8).searched, 8);
+}
+
 #[test]
 fn refusals_and_marks() {
+    let nothing = |verdict| Key { verdict, plan: Vec::new(), list: Vec::new(), searched: 0 };
     for (row, board) in (1..).zip(refused()) {
-        assert_eq!(read(&board).err(), Some(row));
+        assert_eq!((read(&board), key(&board, 96, 8)), (Err(row), nothing(row)));
     }
     for (board, number) in loops_refused().into_iter().chain(one_blocked()).chain(versions_refused()) {
-        assert_eq!(read(&board).err(), Some(number));
+        assert_eq!((read(&board), key(&board, 96, 8)), (Err(number), nothing(number)));
     }
-    assert_eq!(key(&k(), 5, 1).verdict, 10);
-    assert_eq!(key(&k(), 6, 0).verdict, 11);
+    assert_eq!(key(&k(), 5, 1), nothing(10));
+    assert_eq!(key(&k(), 6, 0), nothing(11));
     let two_out = wide_t((7, 0), (263, 0));
-    assert_eq!((key(&two_out, 12, 1).verdict, collapse(&two_out, 1).0), (11, 11));
+    assert_eq!((key(&two_out, 12, 1), collapse(&two_out, 1).0), (nothing(11), 11));
     for (sheet, number) in SHEETS_FOR_K {
         assert_eq!(mark(&k(), sheet), number);
     }

@@ -61,7 +61,7 @@ pub wide-hold : Hold wideCarriers
 unfolding wideCarriers wideZonesFree headed given
 wide-hold = refl
 
-pub search-rows : length searchRows ≡ 13
+pub search-rows : length searchRows ≡ 14
 unfolding searchRows
 search-rows = refl
 

@@ -2,8 +2,8 @@
 -- An ascending list is known by its members, and whether a carrier can go ends a round or goes on.
 use Prim.Native.Nat.{ℕ}
 use mathlib.Core.Path.{_≡_, refl, sym, ap, ap₂, _∙_, subst}
-use mathlib.Core.List.{List, _∷_, _++_}
-use mathlib.Core.Option.{Option, none, some}
+use mathlib.Core.List.{List, [], _∷_, _++_}
+use mathlib.Core.Option.{Option}
 use native.Mathlib.Omega.{arith}
 use Rattle.model.specs.Track.{Track}
 use Rattle.model.specs.Position.{Position, retire}
@@ -20,7 +20,7 @@ lowest-one {cs = cs} {ds} a b = ascending-unique cs ds (a .ascending) (b .ascend
 module _ {t : Track} where
   round-one : {p : Position} {cs : List ℕ} {wss vss : List (List ℕ)} {o r : Option ℕ} → Round t p cs wss o → Round t p cs vss r → (wss ≡ vss) × (o ≡ r)
   round-one all-tried all-tried = (refl, refl)
-  round-one (goes a g) (goes b h) = (ap (λ (l : List ℕ). l ∷ List.[]) (reached-one a b), refl)
+  round-one (goes a g) (goes b h) = (ap (λ (l : List ℕ). l ∷ []) (reached-one a b), refl)
   round-one (goes a g) (stays b n y) = absurd (n g)
   round-one (stays a n x) (goes b h) = absurd (n h)
   round-one (stays a n x) (stays b m y) = let rest = round-one x y in (ap₂ (λ (l : List ℕ) (k : List (List ℕ)). l ∷ k) (reached-one a b) (rest .0), rest .1)

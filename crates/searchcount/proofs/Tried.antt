@@ -1,7 +1,7 @@
 -- The definition's rounds are the key's rounds: in each try the words reached, up to and with the carrier that goes, and on while one does.
 -- By induction over the carriers of a round, and over the rounds left, which are at least as many as carriers are out.
 use Prim.Native.Nat.{ℕ, zero, suc, _+_, _≤_}
-use mathlib.Core.Path.{_≡_, refl, sym, ap, subst}
+use mathlib.Core.Path.{_≡_, refl, sym, subst}
 use mathlib.Core.List.{List, [], _∷_, _++_, append-nil, List·Memᴰ, List·Memᴰ·head, List·Memᴰ·tail}
 use mathlib.Core.Option.{Option, none, some, Option·map}
 use native.Mathlib.Omega.{arith}

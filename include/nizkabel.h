@@ -54,8 +54,9 @@ enum nizkabel_number {
 /* Draws the key of a board. Gives 0 or 20, or 1 to 11 where it is turned back. The plan's words and the blocked carriers' numbers are
  * written from the start of plan and list; past them, and on 1 to 11, both stay as they were. out[0] is the count of words in the plan,
  * out[1] the count of numbers in the list, out[2] the search count; all three are 0 on 1 to 11. The search count tells how hard the board is to
- * search: the words that a carrier reaches from its standing, that one included and none past home, while the others stand still, summed over
- * all tries, lowest first in each round up to the carrier that goes, and in the last round all that are left. It is at most Z x C x (C + 1). */
+ * search. In each round the carriers out are tried, lowest number first, up to and with the first that can go home, which leaves; in the last
+ * round none can, and all are tried. A try counts the words that the carrier reaches from its standing while the others stand still, the standing
+ * included, and nothing past a word that leaves at home. The search count is the sum over all tries, at most Z x C x (C + 1). */
 uint32_t nizkabel_key(const uint8_t *board, size_t board_len, uint16_t *plan, size_t plan_len, uint16_t *list, size_t list_len, uint32_t out[3]);
 
 /* Collapses a board. Gives 0, or 1 to 9 or 11. out[0] is the count of carriers left, whose numbers are written to the list ascending; on

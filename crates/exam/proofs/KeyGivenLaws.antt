@@ -1,5 +1,6 @@
 -- How the key on a track and a position meets its contract: 10 and 11 write nothing; otherwise the plan is what was sent home, the
--- list is who is out then, the position has only those, and the search count is that of the sending. Who is still out after sending home is named, and fits in the list.
+-- list is who is out then, the position has only those, and the search count is that of the sending. Who is still out after sending home is
+-- named, and fits in the list.
 use Prim.Native.Nat.{ℕ, _+_, _*_, _≤_, _<_}
 use mathlib.Core.List.{List, _++_}
 use mathlib.Core.Path.{_≡_, sym, ap, _∙_, subst}
@@ -80,7 +81,7 @@ module _ {t : Track} {p plan list : List ℕ} (room : Enough (t .zones) p plan l
       given-summary {out} counted = (λ i. record { points = t .points; zones = t .zones; out = counted i }) ∙ rw goes-on
 
       pub given-searched : answer .searched ≡ searchedOf t p verdict
-      given-searched = rw goes-on (sent .counted)
+      given-searched = rw goes-on (sent .searched-is)
 
       pub given-position : Ready t p → p′ ≡ positionLeft verdict (keyIn t p (length plan) (length list) .list) p
       unfolding keyForBy

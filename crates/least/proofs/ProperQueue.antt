@@ -9,7 +9,7 @@ use lib.ListN.{length}
 use Rattle.model.proofs.AscendingLaws.{NoRepeats}
 use Rattle.model.proofs.PlaceLaws.{mem-getD}
 use Rattle.least.specs.Queue.{Queue, inQueue}
-use Rattle.least.proofs.RepeatLaws.{appended-no-repeats, no-repeats-length}
+use Rattle.least.proofs.RepeatLaws.{appended-no-repeats}
 use Rattle.least.proofs.QueueLaws.{size, wordAt, fromAt, startQueue, added, not-in-place, length-appended, size-added, word-old, from-old, added-places}
 
 pub record Proper (n : ℕ) (q : Queue) : Type 0 where
@@ -34,10 +34,6 @@ proper-start n w b = record {
     go (suc j) h = absurd (omega arith)
 
 module _ {n : ℕ} {q : Queue} (p : Proper n q) where
-  -- so n places are enough
-  pub proper-size : size q ≤ n
-  proper-size = no-repeats-length n (q .words) (p .different) (λ x m. let (j, h, e) = mem-getD 0 m in rw e at (p .lower j h))
-
   pub added-proper : (i v : ℕ) → i < size q → v < n → inQueue q v ≡ false → Proper n (added i q v)
   added-proper i v b c e = record {
     even = length-appended (q .froms) i ∙ ap suc (p .even) ∙ sym (size-added i q v);

@@ -11,9 +11,9 @@ use native.Mathlib.Omega.{arith}
 use lib.ListN.{length, getD, length-append, List·getD-append}
 use lib.Seq.{getD-at}
 use lib.Dec.{eqb}
-use borrow.Author.Tests.{eqb-true, eq-eqb}
+use borrow.Author.Tests.{eq-eqb}
 use Rattle.model.proofs.BoolLaws.{both-ways}
-use Rattle.model.proofs.ListLaws.{any-true, true-any}
+use Rattle.model.proofs.ListLaws.{true-any, any-mem}
 use Rattle.model.proofs.PlaceLaws.{mem-getD, getD-mem}
 use Rattle.least.specs.Queue.{Queue, inQueue, offerIf, offer, offerAll}
 
@@ -57,10 +57,7 @@ offerAll-cons i q v vs = refl
 -- a word is in the queue exactly where it stands at a place
 
 pub in-place : (q : Queue) (v : ℕ) → inQueue q v ≡ true → (j : ℕ) × (j < size q) × (wordAt q j ≡ v)
-in-place q v e =
-    let (x, m, t) = any-true (eqb v) (q .words) e in
-    let (j, h, r) = mem-getD 0 m in
-    (j, h, r ∙ sym (eqb-true v x t))
+in-place q v e = mem-getD 0 (any-mem v (q .words) e)
 
 pub place-in : (q : Queue) (j : ℕ) {v : ℕ} → j < size q → wordAt q j ≡ v → inQueue q v ≡ true
 place-in q j {v} h e = true-any (eqb v) (getD-mem 0 (q .words) j h) (eq-eqb v (wordAt q j) (sym e))

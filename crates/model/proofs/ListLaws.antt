@@ -3,12 +3,14 @@
 use Prim.Native.Nat.{ℕ, zero, suc, _+_, _≤_, _<_}
 use mathlib.Core.Path.{_≡_, refl, sym, _∙_, ap, ap₂, subst}
 use mathlib.Core.Logic.{_⊎_, inl, inr}
-use mathlib.Core.List.{List, [], _∷_, _++_, List·Memᴰ, List·Memᴰ·head, List·Memᴰ·tail, List·Memᴰ·not-nil, List·Memᴰ·cases-cons, foldl}
+use mathlib.Core.List.{List, [], _∷_, _++_, List·Memᴰ, List·Memᴰ·head, List·Memᴰ·tail, List·Memᴰ·not-nil, List·Memᴰ·cases-cons, Memᴰ·cast, foldl}
 use mathlib.Core.Bool.{Bool, true, false, true≢false, false≢true, _&&_, _||_}
 use mathlib.Core.Option.{none, some}
 use native.Mathlib.Nat.{eq-or-lt-of-le}
 use native.Mathlib.Omega.{arith}
 use lib.ListN.{length, getD, replicate, length-append}
+use lib.Dec.{eqb}
+use borrow.Author.Tests.{eqb-true, eq-eqb}
 use Rattle.model.specs.Lists.{countUp, numbersBelow, consIf, keep, anyOf, allOf, thisElse, first, howMany, nTimes}
 use Rattle.model.proofs.BoolLaws.{and-left, and-right, both-ways, not-true-false, or-left, or-right}
 
@@ -264,6 +266,14 @@ keep-lowest f g k (suc n) p a b t u least other =
         let fails : f k ≡ false = least k (omega arith) l in
         ap₂ (λ (s : Bool) (r : List ℕ). consIf s k r) fails (ih l) ∙
         ap (λ (s : Bool). p ∷ consIf s k (keep g (countUp (suc k) n))) (sym (sym (other k (omega arith) (λ q. omega arith)) ∙ fails))
+
+-- a number is in a list exactly where some element equals it
+
+pub any-mem : (x : ℕ) (l : List ℕ) → anyOf (eqb x) l ≡ true → List·Memᴰ x l
+any-mem x l e = let r = any-true (eqb x) l e in Memᴰ·cast (eqb-true x (r .0) (r .2)) (r .1)
+
+pub mem-any : {x : ℕ} {l : List ℕ} → List·Memᴰ x l → anyOf (eqb x) l ≡ true
+mem-any {x} m = true-any (eqb x) m (eq-eqb x x refl)
 
 -- a test over two lists, one after the other
 pub any-append : (f : ℕ → Bool) (l m : List ℕ) → anyOf f (l ++ m) ≡ (anyOf f l || anyOf f m)

@@ -16,7 +16,7 @@ use Rattle.model.specs.Track.{Track, zoneOf, headingOf}
 use Rattle.model.specs.Position.{Position, at, carrierOf, isFree, Stands, Out, Once, without, retire, outs}
 use Rattle.model.specs.Accepted.{Laid}
 use Rattle.model.proofs.BoolLaws.{decided}
-use Rattle.model.proofs.ListLaws.{mem-keep, keep-mem, any-true, any-false, how-many-length}
+use Rattle.model.proofs.ListLaws.{mem-keep, keep-mem, any-false, any-mem, how-many-length}
 use Rattle.model.proofs.AscendingLaws.{mem-ascending, ascending-mem, length-ascending, ascending-strict, ascending-unique, ascending-no-repeats, keep-ascending, NoRepeats}
 use Rattle.model.proofs.PlaceLaws.{keep-one-fewer, mem-getD, getD-mem}
 use Rattle.model.proofs.WordLaws.{below-zone, carrier-word, heading-small, heading-word, word-parts}
@@ -241,5 +241,5 @@ pub out-decided : (p : Position) (c : ℕ) → Out p c ⊎ (Out p c → ⊥)
 out-decided p c = go (decided (anyOf (eqb c) (outs p)))
   where
     go : (anyOf (eqb c) (outs p) ≡ true) ⊎ (anyOf (eqb c) (outs p) ≡ false) → Out p c ⊎ (Out p c → ⊥)
-    go (inl e) = let r = any-true (eqb c) (outs p) e in inl (mem-outs p (Memᴰ·cast (eqb-true c (r .0) (r .2)) (r .1)))
+    go (inl e) = inl (mem-outs p (any-mem c (outs p) e))
     go (inr e) = inr (λ u. eqb-false c c (any-false (eqb c) e (outs-mem p u)) refl)

@@ -8,13 +8,13 @@ use native.Mathlib.Omega.{arith}
 use lib.ListN.{length}
 use lib.Seq.{ext-getD}
 use lib.Dec.{eqb}
-use borrow.Author.Tests.{eq-eqb, eqb-true, eqb-false}
+use borrow.Author.Tests.{eqb-true, eqb-false}
 use Rattle.model.specs.Lists.{anyOf}
 use Rattle.model.specs.Track.{Track, headingOf}
 use Rattle.model.specs.Position.{Position, at, carrierOf, Stands, Out, onlyLeft, outs}
 use Rattle.model.specs.Accepted.{Laid}
 use Rattle.model.proofs.BoolLaws.{decided}
-use Rattle.model.proofs.ListLaws.{any-true, true-any}
+use Rattle.model.proofs.ListLaws.{any-mem, mem-any}
 use Rattle.model.proofs.PositionLaws.{length-without, at-without-gone, at-without-kept, free-without, held-stands, laid-numbered, mem-outs, outs-mem}
 use Rattle.order.proofs.Within.{Within, stands-before}
 
@@ -24,9 +24,7 @@ module _ {t : Track} {q p : Position} (a : Within q p) (laid : Laid t p) where
 
   -- whoever is listed as out is out
   listed-out : (c : ℕ) → anyOf (eqb c) (outs q) ≡ true → Out q c
-  listed-out c e =
-      let x = any-true (eqb c) (outs q) e in
-      mem-outs q (rw (sym (eqb-true c (x .0) (x .2))) at (x .1))
+  listed-out c e = mem-outs q (any-mem c (outs q) e)
 
   pub within-only : q ≡ onlyLeft (outs q) p
   within-only = ext-getD 0 q (onlyLeft (outs q) p) (a .as-long ∙ sym (length-without gone p)) (λ z h. zone z (rw (a .as-long) at h) (decided (eqb (at p z) 0)) (a .kept z))
@@ -39,7 +37,7 @@ module _ {t : Track} {q p : Position} (a : Within q p) (laid : Laid t p) where
           empty : (at q z ≡ at p z) ⊎ (at q z ≡ 0) → at q z ≡ 0
           empty (inl e) = e ∙ eqb-true (at p z) 0 f
           empty (inr e) = e
-      zone z h (inr f) (inl e) = e ∙ sym (at-without-kept gone p z (ap not (true-any (eqb c) (outs-mem q (2 * z + headingOf (at q z), out)) (eq-eqb c c refl))))
+      zone z h (inr f) (inl e) = e ∙ sym (at-without-kept gone p z (ap not (mem-any (outs-mem q (2 * z + headingOf (at q z), out)))))
         where
           c : ℕ
           c = carrierOf (at p z)

@@ -9,11 +9,11 @@ use native.Mathlib.Omega.{arith}
 use lib.ListN.{length, getD, take, drop, length-append, length-map, List·getD-append}
 use lib.Seq.{getD-take, length-take-le, take-at, getD-append-add}
 use lib.Dec.{eqb, ltb}
-use borrow.Author.Tests.{eqb-true, eq-eqb, ltb-true, ltb-false, lt-ltb, le-ltb}
+use borrow.Author.Tests.{ltb-true, ltb-false, lt-ltb, le-ltb}
 use Rattle.model.specs.Lists.{countUp, numbersBelow, keep, anyOf, howMany, overwrittenAt}
 use Rattle.model.specs.Track.{zoneOf, rev}
 use Rattle.model.proofs.BoolLaws.{same-test}
-use Rattle.model.proofs.ListLaws.{mem-below, below-mem, mem-countUp, countUp-append, mem-keep, keep-mem, keep-append, keep-ext, keep-none, any-true, true-any, any-append}
+use Rattle.model.proofs.ListLaws.{mem-below, below-mem, mem-countUp, countUp-append, mem-keep, keep-mem, keep-append, keep-ext, keep-none, any-append, any-mem, mem-any}
 use Rattle.model.proofs.CountLaws.{how-many-below, how-many-below-ext, how-many-either}
 use Rattle.model.proofs.PlaceLaws.{getD-mem, getD-map}
 use Rattle.rules.specs.Key.{mayEnter, ungatedSteps, nextsBy}
@@ -111,12 +111,10 @@ module _ {zones : ℕ} {ends p follows : List ℕ} (t : BoardTable zones ends p 
   any-next v h = same-test (anyOf (eqb v) next) (after v) there back ∙ sym (new-after v h)
     where
       there : anyOf (eqb v) next ≡ true → after v ≡ true
-      there e =
-          let x = any-true (eqb v) next e in
-          ap after (eqb-true v (x .0) (x .2)) ∙ mem-keep after (numbersBelow 192) (x .1) .1
+      there e = mem-keep after (numbersBelow 192) (any-mem v next e) .1
 
       back : after v ≡ true → anyOf (eqb v) next ≡ true
-      back e = true-any (eqb v) (keep-mem after (below-mem 192 v (omega (arith, t .few))) e) (eq-eqb v v refl)
+      back e = mem-any (keep-mem after (below-mem 192 v (omega (arith, t .few))) e)
 
   counts : howMany (λ v. seen v || new v) (numbersBelow m) ≡ found + length next
   counts =

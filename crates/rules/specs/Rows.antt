@@ -1,5 +1,6 @@
 -- Rows of tables: an input of the key and the collapse, or of the marker, with what the documents give it; where the home gate shows, by the
--- older moving rule too; what the key of a refused board would be; and what is reached in the key's tries. The definitions are computed on each row: proofs/RowsHold.antt.
+-- older moving rule too; what the key of a refused board would be; and what is reached in the key's tries. The definitions are computed on each
+-- row: proofs/RowsHold.antt.
 use Prim.Native.Nat.{ℕ}
 use mathlib.Core.List.{List, [], map}
 use mathlib.Core.Path.{_≡_}

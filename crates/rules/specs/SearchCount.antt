@@ -17,7 +17,7 @@ use Rattle.rules.specs.Key.{StepTest, steps, nextsBy, zoneFor, leastRout
 abbrev pub amongOrNext : (ℕ → List ℕ) → List ℕ → ℕ → Bool
 amongOrNext nexts ws v = anyOf (eqb v) ws || anyOf (λ w. anyOf (eqb v) (nexts w)) ws
 
--- the words below n that are found from w in n rounds, each of which adds the next words of all found so far
+-- the words below n that are found from w by adding, n times, the next words of all found so far
 unfoldable pub foundFrom : (ℕ → List ℕ) → ℕ → ℕ → List ℕ
 foundFrom nexts n w = nTimes n (λ ws. keep (amongOrNext nexts ws) (numbersBelow n)) (w ∷ [])
 

@@ -25,7 +25,7 @@ searchRows =
     inTries (turnWith 6 1) ((0 ∷ 4 ∷ []) ∷ (3 ∷ 4 ∷ []) ∷ []) 4 4 ∷
     inTries farLoop ((0 ∷ []) ∷ (2 ∷ 3 ∷ 4 ∷ 5 ∷ 6 ∷ 7 ∷ []) ∷ []) 7 7 ∷
     inTries (laidOut 2 (zone 0 1 5 0 ∷ free 1 1 ∷ [])) ((0 ∷ 1 ∷ 2 ∷ 3 ∷ []) ∷ []) 4 4 ∷
-    -- a turning loop isn't entered again straight after itself, the same way or the other
+    -- a turning loop isn't entered again straight after itself, the other way round
     inTries (laidOut 2 (zone 0 1 5 0 ∷ zone 1 1 6 0 ∷ [])) ((0 ∷ []) ∷ (2 ∷ []) ∷ []) 2 2 ∷
     -- the search of who goes is counted whole; by the older rule it runs on through home
     acceptedBoard turnBeyond 0 (5 ∷ 2 ∷ 0 ∷ 3 ∷ []) [] ∷

@@ -11,7 +11,7 @@ use Rattle.model.specs.Position.{Position, retire, outs}
 use Rattle.rules.specs.Routes.{Entry}
 use Rattle.rules.specs.Key.{firstToGo, runOn, runFor, runForBy, run, runBy}
 use Rattle.rules.specs.SearchCount.{ifOneGoes, sumOfLengths, tried, triesFor, triesForBy, triesBy, searchedBy, searched}
-use Rattle.searchcount.proofs.Bounded.{sum-append}
+use Rattle.searchcount.proofs.Most.{sum-append}
 
 -- one more was out
 the-count : {m n : ℕ} → m + 1 ≡ n → n ≡ suc m

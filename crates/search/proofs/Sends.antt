@@ -19,7 +19,7 @@ use Rattle.model.proofs.WordLaws.{heading-small, zone-word}
 use Rattle.model.proofs.PositionLaws.{laid-retire, held-stands, retire-set, outs-most, outs-retire-length, length-without, without-cases}
 use Rattle.rules.specs.Key.{Run, run, planWords}
 use Rattle.rules.specs.SearchCount.{searched}
-use Rattle.searchcount.proofs.Bounded.{searched-most}
+use Rattle.searchcount.proofs.Most.{searched-most}
 use Rattle.queue.specs.WordSets.{inSet, ZoneAdded, FreeWords}
 use Rattle.queue.specs.Written.{routeTo, entryOf, EntryRoom, EntryWritten}
 use Rattle.least.proofs.PathLaws.{path-length}
@@ -87,7 +87,7 @@ module _ {t : Track} {follows order : List ℕ} {count : ℕ} {words₀ froms₀
     planned = sym (u .here) ∙ ap length all;
     written = u .stored ∙ ap₂ (λ (w : List ℕ) (n : ℕ). w ++ drop n plan₀) all (sym (u .here) ∙ ap length all);
     last = ap (λ (r : Run). r .last) (sym e) ∙ u .rest-last;
-    counted = n;
+    searched-is = n;
   }
     where
       all : u .written ≡ planOf t p₀
@@ -98,19 +98,19 @@ module _ {t : Track} {follows order : List ℕ} {count : ℕ} {words₀ froms₀
 
   module _ (some-left : 0 < left) {words′ froms′ : List ℕ} where
     pub underway-few : {r : Outcome} → Sought t p words′ froms′ r → counted + r .searched ≤ 893952
-    underway-few s = omega (arith, s .counted, searched-most-round t p (omega (arith, u .still-out)), u .rest-count, u .count-few)
+    underway-few s = omega (arith, s .searched-is, searched-most-round t p (omega (arith, u .still-out)), u .rest-count, u .count-few)
 
     pub underway-nobody : {found : ℕ} → Sought t p words′ froms′ (record { goes = Nobody; searched = found }) → SentHome t p₀ plan₀ p plan (record { planned = k; searched = counted + found })
     underway-nobody s =
         ends-here (run-none t p (sym (s .entry)))
-        (omega (arith, s .counted, searched-none t p (omega (arith, u .still-out)) (sym (s .entry)), u .rest-count))
+        (omega (arith, s .searched-is, searched-none t p (omega (arith, u .still-out)) (sym (s .entry)), u .rest-count))
 
 -- who goes is known
 pub sought-at : {t : Track} {p words froms : List ℕ} {r : Outcome} (a : Goes) → r .goes ≡ a → Sought t p words froms r → Sought t p words froms (record { goes = a; searched = r .searched })
 sought-at {t} {p} {words} {froms} a e s = record {
   entry = ap (entryGiven p words froms) (sym e) ∙ s .entry;
   given = subst (GivenBy (t .zones) p words froms) e (s .given);
-  counted = s .counted;
+  searched-is = s .searched-is;
 }
 
 -- one of the carriers left goes
@@ -168,7 +168,7 @@ module _ {t : Track} {follows order : List ℕ} {count : ℕ} {words₀ froms₀
   step = run-step t p (sym (x .sought .entry)) (outs-retire-length carrier p once (_, stands))
 
   step-count : searched t p ≡ found + searched t (retire carrier p)
-  step-count = searched-step t p (sym (x .sought .entry)) (outs-retire-length carrier p once (_, stands)) ∙ ap (λ (n : ℕ). n + searched t (retire carrier p)) (sym (x .sought .counted))
+  step-count = searched-step t p (sym (x .sought .entry)) (outs-retire-length carrier p once (_, stands)) ∙ ap (λ (n : ℕ). n + searched t (retire carrier p)) (sym (x .sought .searched-is))
 
   freed : retire carrier p ≡ set p zone 0
   freed = retire-set once stands ∙ ap (λ (z : ℕ). set p z 0) (zone-word zone (headingOf (at p zone)) (heading-small (at p zone)))

@@ -20,7 +20,7 @@ use Rattle.rules.specs.Key.{nexts, leavesHome, leastRoute, goesElse, firstToGo,
 use Rattle.rules.specs.SearchCount.{unlessGoes, sumOfLengths, reached, tried, triedBy}
 use Rattle.order.proofs.LeastRoute.{least-at}
 use Rattle.searchcount.proofs.Reaching.{reached-at}
-use Rattle.searchcount.proofs.Bounded.{tried-most}
+use Rattle.searchcount.proofs.Most.{tried-most}
 use Rattle.carriers.specs.Order.{carriersIn}
 use Rattle.carriers.proofs.Sorting.{zone-inside}
 use Rattle.queue.specs.WordSets.{Added}
@@ -59,7 +59,7 @@ module _ {t : Track} {p follows free order : List ℕ} {count : ℕ} {words₀ f
   nobody-goes {words} {froms} {searched} {k} d e = record {
     entry = ap (firstToGo t p) (sym none-left) ∙ d .goer;
     given = tt;
-    counted = omega (arith, d .counted, ap (λ (l : List ℕ). sumOfLengths (tried t p l)) none-left);
+    searched-is = omega (arith, d .counted, ap (λ (l : List ℕ). sumOfLengths (tried t p l)) none-left);
   }
     where
       none-left : leftFrom p order count k ≡ []
@@ -217,7 +217,7 @@ module _ {t : Track} {p follows free order : List ℕ} {count : ℕ} {words₀ f
                 few = omega (arith, looking-arrived l turn-standing end e, queued-most (l .queued));
                 readable = queued-readable (l .queued) (omega (arith, x .next .seeking .tables .few)) arrival (looking-arrived l turn-standing end e);
               };
-              counted = omega (arith, counted-held, turn-count, ap (λ (o : Option (List ℕ)). sumOfLengths (unlessGoes o (tried t p others))) least);
+              searched-is = omega (arith, counted-held, turn-count, ap (λ (o : Option (List ℕ)). sumOfLengths (unlessGoes o (tried t p others))) least);
             }
 
     -- a place is left to look at

@@ -50,4 +50,4 @@ GivenBy zones p words froms Nobody = Unit {0}
 pub record Sought (t : Track) (p words froms : List ℕ) (r : Outcome) : Type 0 where
   pub entry : entryGiven p words froms (r .goes) ≡ firstToGo t p (outs p)
   pub given : GivenBy (t .zones) p words froms (r .goes)
-  pub counted : r .searched ≡ sumOfLengths (tried t p (outs p))
+  pub searched-is : r .searched ≡ sumOfLengths (tried t p (outs p))

@@ -1,4 +1,4 @@
--- Sending home all that can go: what is asked, and what the plan and the position are then.
+-- Sending home all that can go: what is asked, and what the plan, the position and the search count are then.
 use Prim.Native.Nat.{ℕ, _+_, _*_, _≤_, _<_}
 use mathlib.Core.List.{List}
 use mathlib.Core.Path.{_≡_}
@@ -29,9 +29,9 @@ pub record Prepared (t : Track) (p follows free order : List ℕ) (count : ℕ) 
 abbrev pub planOf : Track → Position → List ℕ
 planOf t p = planWords (run t p .plan)
 
--- the plan's words are stored, the rest of the plan is as it was, all that can go are gone, and the words reached in all tries are counted
+-- the plan's words are stored, the rest of the plan is as it was, all that can go are gone, and the count is that of all tries
 pub record SentHome (t : Track) (p plan p′ plan′ : List ℕ) (r : Sent) : Type 0 where
   pub planned : r .planned ≡ length (planOf t p)
   pub written : plan′ ≡ overwritten (planOf t p) plan
   pub last : p′ ≡ run t p .last
-  pub counted : r .searched ≡ searched t p
+  pub searched-is : r .searched ≡ searched t p

@@ -8,6 +8,9 @@ ghost use Rattle.model.specs.Track.{trackOf};
 ghost use Rattle.search.specs.Leaving.{Seeking, Sought};
 ghost use Rattle.search.specs.Sending.{Sendable, Prepared, SentHome};
 
+// No place of a queue: it has at most 192.
+const NOWHERE: usize = 192;
+
 // The zone of the carrier that can go, and the place in the queue of the last word of its route; or none can.
 pub enum Goes {
     From(usize, usize),
@@ -69,12 +72,11 @@ fn first_to_go(
         froms[0] = 0;
         let mut found = 1;
         let mut i = 0;
-        // No queue has a place 192.
-        let mut arrival = 192;
+        let mut arrival = NOWHERE;
         loop {
             if i == found {
                 searched += found as u32;
-                if arrival == 192 {
+                if arrival == NOWHERE {
                     continue 'carriers;
                 }
                 break 'carriers Outcome {

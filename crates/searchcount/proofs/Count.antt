@@ -4,9 +4,9 @@ use Rattle.model.specs.Track.{Track}
 use Rattle.model.specs.Position.{Position}
 use Rattle.model.specs.Accepted.{Laid}
 use Rattle.searchcount.specs.Rounds.{SearchCount}
-use Rattle.searchcount.proofs.Tried.{searched-counted}
+use Rattle.searchcount.proofs.RoundsMet.{searched-counted}
 use Rattle.searchcount.proofs.CountedOnce.{counted-once}
-use Rattle.searchcount.proofs.Bounded.{searched-most}
+use Rattle.searchcount.proofs.Most.{searched-most}
 
 pub search-count : (t : Track) (p : Position) → Laid t p → SearchCount t p
 search-count t p laid = record {

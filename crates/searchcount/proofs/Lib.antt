@@ -1,5 +1,5 @@
 pub mod Reaching
-pub mod Tried
+pub mod RoundsMet
 pub mod CountedOnce
-pub mod Bounded
+pub mod Most
 pub mod Count

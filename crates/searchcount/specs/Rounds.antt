@@ -1,5 +1,5 @@
 -- What the search count counts (request j of document 02), in relations alone: for each try of each round the words that the carrier reaches.
--- No search has to be believed to read it.
+-- No search has to be believed to read it. The last statements tie it to the definition.
 use Prim.Native.Nat.{ℕ, _+_, _*_, _≤_}
 use mathlib.Core.List.{List, [], _∷_, _++_, List·Memᴰ}
 use mathlib.Core.Path.{_≡_}

@@ -57,7 +57,7 @@ impl SearchTally {
         self.large += (key.searched > 65_535) as usize;
     }
 
-    /// Whether each kind is so many of the boards or more, a hundred of them being all.
+    /// Whether each kind has at least so many in a hundred of the boards.
     pub fn fair(&self, of_a_hundred: usize) -> bool {
         let kinds = [self.rounds, self.in_vain, self.then_blocked, self.stopped, self.gate, self.again];
         0 < self.boards && kinds.iter().all(|&n| of_a_hundred * self.boards <= 100 * n)

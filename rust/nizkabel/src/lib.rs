@@ -22,10 +22,12 @@ pub const PLAN_ROOM: usize = 18_624;
 pub const LIST_ROOM: usize = 96;
 
 /// What the key gives: the verdict (0 ordered, 20 some carrier blocked, 1 to 11 turned back), the count of words written to
-/// the plan, the count of numbers written to the list, and the search count, which tells how hard the board is to search: the words that a
-/// carrier reaches from its standing, that one included and none past home, while the others stand still, summed over all tries, lowest first in
-/// each round up to the carrier that goes, and in the last round all that are left. With Z zones and C carriers out it is at most
-/// Z × C × (C + 1); on 1 to 11 it is 0.
+/// the plan, the count of numbers written to the list, and the search count, which tells how hard the board is to search.
+///
+/// In each round the carriers out are tried, lowest number first, up to and with the first that can go home, which leaves; in the last round none
+/// can, and all are tried. A try counts the words that the carrier reaches from its standing while the others stand still, the standing included,
+/// and nothing past a word that leaves at home. The search count is the sum over all tries; with Z zones and C carriers out it is at most
+/// Z × C × (C + 1), and on 1 to 11 it is 0.
 #[derive(Clone, Copy, Debug, PartialEq, Eq)]
 pub struct Key {
     pub verdict: u32,

@@ -1,5 +1,6 @@
 -- `send_all` meets its contract: it stores the plan of the key's run, leaves the run's last position, and gives the search count.
--- The invariant: what is stored and the run from here make the whole run, and so for what is counted (laws of Sends). The measure is how many carriers are out.
+-- The invariant: what is stored and the run from here make the whole run, and so for what is counted (laws of Sends). The measure is how many
+-- carriers are out.
 use Prim.Native.Nat.{_<_}
 use mathlib.Core.Path.{_∙_}
 use native.Mathlib.Omega.{arith}

@@ -67,7 +67,9 @@ module _ (t : Track) (p : Position) {a : KeyAnswer} {plan list plan′ list′ :
   named-written : NamedRight t p (a .list) → NamedRight t p (take listed list′)
   named-written h = subst (NamedRight t p) (sym (read-back (a .list) list (given .listed-is) (given .list-is))) h
 
-promised : (b plan list : List ℕ) {plan′ list′ : List ℕ} {verdict planned listed n : ℕ} → refusal b ≡ 0 → Ready (trackSaid b) (positionSaid b) → KeyGiven (keyOf b (length plan) (length list)) plan list verdict planned listed plan′ list′ → n ≡ searchedOf (trackSaid b) (positionSaid b) verdict → KeyPromise b plan list verdict planned listed n plan′ list′
+promised : (b plan list : List ℕ) {plan′ list′ : List ℕ} {verdict planned listed n : ℕ} → refusal b ≡ 0 → Ready (trackSaid b) (positionSaid b)
+    → KeyGiven (keyOf b (length plan) (length list)) plan list verdict planned listed plan′ list′ → n ≡ searchedOf (trackSaid b) (positionSaid b) verdict
+    → KeyPromise b plan list verdict planned listed n plan′ list′
 unfolding keyForBy
 promised b plan list {plan′} {list′} {verdict} {planned} {listed} {n} none ready given counts =
     record {
@@ -103,7 +105,9 @@ promised b plan list {plan′} {list′} {verdict} {planned} {listed} {n} none r
     two = some-is-two (trackSaid b) (accepted-track b none) (positionSaid b) (ready .bounded .laid)
 
 -- the inner key's answer on what was read
-pub key-promised : {b plan list plan′ list′ : List ℕ} {r : Board} {verdict planned listed n : ℕ} → Bytes b → Said b r → KeyGiven (keyIn (trackRead r) (positionRead r) (length plan) (length list)) plan list verdict planned listed plan′ list′ → n ≡ searchedOf (trackRead r) (positionRead r) verdict → KeyPromise b plan list verdict planned listed n plan′ list′
+pub key-promised : {b plan list plan′ list′ : List ℕ} {r : Board} {verdict planned listed n : ℕ} → Bytes b → Said b r
+    → KeyGiven (keyIn (trackRead r) (positionRead r) (length plan) (length list)) plan list verdict planned listed plan′ list′ → n ≡ searchedOf (trackRead r) (positionRead r) verdict
+    → KeyPromise b plan list verdict planned listed n plan′ list′
 key-promised {b} {plan} {list} {plan′} {list′} {r} {verdict} {planned} {listed} {n} small s given counts =
     promised b plan list (s .accepted) (ready-said b small (s .accepted))
     (subst (λ (a : KeyAnswer). KeyGiven a plan list verdict planned listed plan′ list′) (sym (key-read b (length plan) (length list) (s .accepted)))

@@ -36,7 +36,8 @@ module _ (nexts : ℕ → List ℕ) (goal : ℕ → Bool) (n w : ℕ) {i : ℕ} 
   o : Proper n q
   o = e .tree .proper
 
-  meets : {x : ℕ} {us : List ℕ} → Way nexts goal x us → (k : ℕ) → k < size q → wordAt q k ≡ x → {p : List ℕ} → BackFrom q k p → (a : List ℕ) → UpTo p a → Met m q (reverseAux us a)
+  meets : {x : ℕ} {us : List ℕ} → Way nexts goal x us
+      → (k : ℕ) → k < size q → wordAt q k ≡ x → {p : List ℕ} → BackFrom q k p → (a : List ℕ) → UpTo p a → Met m q (reverseAux us a)
   meets (ends g) k h f {p} b a u = go (ltb k m) refl
     where
       go : (t : Bool) → ltb k m ≡ t → Met m q a
@@ -44,7 +45,8 @@ module _ (nexts : ℕ → List ℕ) (goal : ℕ → Bool) (n w : ℕ) {i : ℕ} 
       go false c = record { place = k; beyond = ltb-false k m c; inside = h; path = p; back = b; no-later = u }
   meets (goes {w = x} {v = v} {vs = vs} next r) k h f {p} b a u = go (ltb k m) refl (λ l h′ f′ s d. meets r l h′ f′ d)
     where
-      go : (t : Bool) → ltb k m ≡ t → ((l : ℕ) → l < size q → wordAt q l ≡ v → (s : List ℕ) → BackFrom q l s → (c : List ℕ) → UpTo s c → Met m q (reverseAux vs c)) → Met m q (reverseAux vs (v ∷ a))
+      go : (t : Bool) → ltb k m ≡ t → ((l : ℕ) → l < size q → wordAt q l ≡ v → (s : List ℕ) → BackFrom q l s → (c : List ℕ) → UpTo s c → Met m q (reverseAux vs c))
+          → Met m q (reverseAux vs (v ∷ a))
       go true c ih =
           let below : k < m = ltb-true k m c in
           let y : Has k v q = e .closed k (omega arith) v (subst (λ (z : ℕ). List·Memᴰ v (nexts z)) (sym f) next) in

@@ -85,11 +85,15 @@ module _ (nexts : ℕ → List ℕ) where
 
         pub found-ascending : Ascending (foundFrom nexts n w)
         unfolding foundFrom
-        found-ascending = n-times-keeps Ascending widened (λ ws h. keep-ascending (amongOrNext nexts ws) (numbersBelow n) (below-ascending n)) n (w ∷ []) (λ b h. absurd (List·Memᴰ·not-nil h), tt)
+        found-ascending =
+            n-times-keeps Ascending widened (λ ws h. keep-ascending (amongOrNext nexts ws) (numbersBelow n) (below-ascending n)) n (w ∷ [])
+            (λ b h. absurd (List·Memᴰ·not-nil h), tt)
 
         found-below : (x : ℕ) → List·Memᴰ x (foundFrom nexts n w) → x < n
         unfolding foundFrom
-        found-below = n-times-keeps (λ ws. (x : ℕ) → List·Memᴰ x ws → x < n) widened (λ ws h x m. mem-below n (mem-keep (amongOrNext nexts ws) (numbersBelow n) m .0)) n (w ∷ []) (λ x m. rw (List·Memᴰ·eq-of-singleton m) below)
+        found-below =
+            n-times-keeps (λ ws. (x : ℕ) → List·Memᴰ x ws → x < n) widened (λ ws h x m. mem-below n (mem-keep (amongOrNext nexts ws) (numbersBelow n) m .0)) n (w ∷ [])
+            (λ x m. rw (List·Memᴰ·eq-of-singleton m) below)
 
         pub found-most : length (foundFrom nexts n w) ≤ n
         found-most = no-repeats-length n (foundFrom nexts n w) (ascending-no-repeats (foundFrom nexts n w) found-ascending) found-below

@@ -33,10 +33,14 @@ use Rattle.queue.specs.Written.{routeTo}
 use Rattle.queue.proofs.OfferLaws.{offered-queued, offered-later, offered-before, offered-queue}
 use Rattle.queue.proofs.QueueArrays.{queued-most, queue-size, queue-word, route-in, queued-one}
 
+-- a place below i whose word leaves at home, or 192
+abbrev AtHome : Track → List ℕ → ℕ → ℕ → Type 0
+AtHome t words i place = (place ≡ 192) ⊎ ((place < i) × (leavesHome t (getD words place 0) ≡ true))
+
 -- of the places below i the first whose word leaves at home, or 192 where none does
 pub record Arrival (t : Track) (words : List ℕ) (i arrival : ℕ) : Type 0 where
   pub none-earlier : (j : ℕ) → j < i → j < arrival → leavesHome t (getD words j 0) ≡ false
-  pub at-home : (arrival ≡ 192) ⊎ ((arrival < i) × (leavesHome t (getD words arrival 0) ≡ true))
+  pub at-home : AtHome t words i arrival
 
 -- the search of one carrier, at place i
 pub record Looking (t : Track) (p : List ℕ) (c standing : ℕ) (words₀ froms₀ words froms enterable : List ℕ) (n i arrival : ℕ) : Type 0 where
@@ -56,7 +60,8 @@ looking-starts t p c standing words froms enterable a b d h enters = record {
   same-words = refl;
   same-froms = refl;
   explored =
-      subst₂ (λ (v u : List ℕ). Explored (nexts t p c) (2 * t .zones) standing 0 (record { words = v; froms = u })) (sym (take-suc-set words 0 standing (omega arith))) (sym (take-suc-set froms 0 0 (omega arith)))
+      subst₂ (λ (v u : List ℕ). Explored (nexts t p c) (2 * t .zones) standing 0 (record { words = v; froms = u }))
+      (sym (take-suc-set words 0 standing (omega arith))) (sym (take-suc-set froms 0 0 (omega arith)))
       (explored-start (nexts t p c) (2 * t .zones) standing h);
   arrives = record { none-earlier = λ j l k. absurd (omega arith); at-home = inl refl };
 }
@@ -87,7 +92,7 @@ module _ {t : Track} {p : List ℕ} {c standing : ℕ} {words₀ froms₀ words 
       there : (arrival < i) × (leavesHome t (getD words arrival 0) ≡ true)
       there = go (l .arrives .at-home)
         where
-          go : (arrival ≡ 192) ⊎ ((arrival < i) × (leavesHome t (getD words arrival 0) ≡ true)) → (arrival < i) × (leavesHome t (getD words arrival 0) ≡ true)
+          go : AtHome t words i arrival → (arrival < i) × (leavesHome t (getD words arrival 0) ≡ true)
           go (inl f) = absurd (e f)
           go (inr g) = g
 
@@ -98,7 +103,8 @@ module _ {t : Track} {p : List ℕ} {c standing : ℕ} {words₀ froms₀ words 
       pub looking-goal : leastFrom (nexts t p c) (leavesHome t) (2 * t .zones) standing ≡ some (routeTo words froms arrival)
       looking-goal =
           first-least (nexts t p c) (leavesHome t) (2 * t .zones) standing (l .explored) (nexts-ascending t p c) (nexts-below t p c) (omega (arith, there .0))
-          (no-goal arrival (omega (arith, there .0)) (omega arith)) h (rw (queue-size (l .queued)) looking-arrived) (ap (leavesHome t) (queue-word (l .queued) arrival looking-arrived) ∙ there .1) ∙
+          (no-goal arrival (omega (arith, there .0)) (omega arith)) h (rw (queue-size (l .queued)) looking-arrived)
+          (ap (leavesHome t) (queue-word (l .queued) arrival looking-arrived) ∙ there .1) ∙
           ap some (route-in (l .queued) arrival looking-arrived)
 
   -- a place is left to look at
@@ -122,7 +128,7 @@ module _ {t : Track} {p : List ℕ} {c standing : ℕ} {words₀ froms₀ words 
       arrived-now : (b : Bool) → ltb arrival i ≡ b → Arrival t words (suc i) (cond b arrival i)
       arrived-now true e = record { none-earlier = λ j k m. l .arrives .none-earlier j (omega (arith, ltb-true arrival i e)) m; at-home = inr (earlier (l .arrives .at-home)) }
         where
-          earlier : (arrival ≡ 192) ⊎ ((arrival < i) × (leavesHome t (getD words arrival 0) ≡ true)) → (arrival < suc i) × (leavesHome t (getD words arrival 0) ≡ true)
+          earlier : AtHome t words i arrival → (arrival < suc i) × (leavesHome t (getD words arrival 0) ≡ true)
           earlier (inl f) = absurd (omega (arith, ltb-true arrival i e, looking-few))
           earlier (inr f) = (omega (arith, f .0), f .1)
       arrived-now false e = record { none-earlier = λ j k m. l .arrives .none-earlier j m (omega (arith, ltb-false arrival i e)); at-home = inr (omega arith, eq-eqb _ _ home) }
@@ -156,7 +162,7 @@ module _ {t : Track} {p : List ℕ} {c standing : ℕ} {words₀ froms₀ words 
       none-earlier j (inl e) m = same j (omega (arith, looking-more)) ∙ ap (λ (k : ℕ). leavesHome t (getD words k 0)) e ∙ ne-eqb _ _ elsewhere
       none-earlier j (inr h) m = same j (omega (arith, looking-more)) ∙ l .arrives .none-earlier j h m
 
-      at-home : (arrival ≡ 192) ⊎ ((arrival < i) × (leavesHome t (getD words arrival 0) ≡ true)) → (arrival ≡ 192) ⊎ ((arrival < suc i) × (leavesHome t (getD words′ arrival 0) ≡ true))
+      at-home : AtHome t words i arrival → AtHome t words′ (suc i) arrival
       at-home (inl e) = inl e
       at-home (inr f) = inr (omega (arith, f .0), same arrival (omega (arith, f .0, looking-more)) ∙ f .1)
 

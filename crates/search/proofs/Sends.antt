@@ -100,7 +100,8 @@ module _ {t : Track} {follows order : List ℕ} {count : ℕ} {words₀ froms₀
     pub underway-few : {r : Outcome} → Sought t p words′ froms′ r → counted + r .searched ≤ 893952
     underway-few s = omega (arith, s .searched-is, searched-most-round t p (omega (arith, u .still-out)), u .rest-count, u .count-few)
 
-    pub underway-nobody : {found : ℕ} → Sought t p words′ froms′ (record { goes = Nobody; searched = found }) → SentHome t p₀ plan₀ p plan (record { planned = k; searched = counted + found })
+    pub underway-nobody : {found : ℕ} → Sought t p words′ froms′ (record { goes = Nobody; searched = found })
+        → SentHome t p₀ plan₀ p plan (record { planned = k; searched = counted + found })
     underway-nobody s =
         ends-here (run-none t p (sym (s .entry)))
         (omega (arith, s .searched-is, searched-none t p (omega (arith, u .still-out)) (sym (s .entry)), u .rest-count))

@@ -54,7 +54,8 @@ module _ {t : Track} {p follows free order : List ℕ} {count : ℕ} {words₀ f
     counted = omega (arith, ap (λ (l : List ℕ). sumOfLengths (tried t p l)) (s .in-order .carriers));
   }
 
-  pub nobody-goes : {words froms : List ℕ} {searched k : ℕ} → Tried t p order count words₀ froms₀ words froms searched k → k ≡ count → Sought t p words froms (record { goes = Nobody; searched = searched })
+  pub nobody-goes : {words froms : List ℕ} {searched k : ℕ} → Tried t p order count words₀ froms₀ words froms searched k → k ≡ count
+      → Sought t p words froms (record { goes = Nobody; searched = searched })
   unfolding firstToGoBy triedBy
   nobody-goes {words} {froms} {searched} {k} d e = record {
     entry = ap (firstToGo t p) (sym none-left) ∙ d .goer;

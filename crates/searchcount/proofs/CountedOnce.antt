@@ -26,7 +26,8 @@ module _ {t : Track} where
   round-one (stays a n x) (stays b m y) = let rest = round-one x y in (ap₂ (λ (l : List ℕ) (k : List (List ℕ)). l ∷ k) (reached-one a b) (rest .0), rest .1)
 
   -- rounds of one position, over the carriers out
-  same-round : {p : Position} {cs ds : List ℕ} {wss vss : List (List ℕ)} {o r : Option ℕ} → LowestOut p cs → LowestOut p ds → Round t p cs wss o → Round t p ds vss r → (wss ≡ vss) × (o ≡ r)
+  same-round : {p : Position} {cs ds : List ℕ} {wss vss : List (List ℕ)} {o r : Option ℕ} → LowestOut p cs → LowestOut p ds
+      → Round t p cs wss o → Round t p ds vss r → (wss ≡ vss) × (o ≡ r)
   same-round {p} {vss = vss} {r = r} a b x y = round-one x (subst (λ (l : List ℕ). Round t p l vss r) (sym (lowest-one a b)) y)
 
   rounds-one : {p : Position} {wss vss : List (List ℕ)} → Rounds t p wss → Rounds t p vss → wss ≡ vss

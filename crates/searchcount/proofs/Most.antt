@@ -42,7 +42,8 @@ module _ (t : Track) where
   tried-most p laid [] out = omega arith
   tried-most p laid (c ∷ cs) out = go (leastRoute t p c) (tried-most p laid cs (λ d m. out d (List·Memᴰ·tail m)))
     where
-      go : (o : Option (List ℕ)) → sumOfLengths (tried t p cs) ≤ length cs * (2 * t .zones) → length (reached t p c) + sumOfLengths (unlessGoes o (tried t p cs)) ≤ suc (length cs) * (2 * t .zones)
+      go : (o : Option (List ℕ)) → sumOfLengths (tried t p cs) ≤ length cs * (2 * t .zones)
+          → length (reached t p c) + sumOfLengths (unlessGoes o (tried t p cs)) ≤ suc (length cs) * (2 * t .zones)
       go (some r) h = omega (arith, reached-most t p laid (out c (List·Memᴰ·head refl)), suc-mul (length cs) (2 * t .zones))
       go none h = omega (arith, reached-most t p laid (out c (List·Memᴰ·head refl)), suc-mul (length cs) (2 * t .zones))
 

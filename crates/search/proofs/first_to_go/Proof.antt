@@ -114,7 +114,8 @@ slice-write-froms : tie.Need-slice-write-froms Inv-loop μ-loop Inv-carriers μ-
 slice-write-froms c = turn-in-froms (turn (c .before .before .before .before .before .before .before))
 
 loop-holds : tie.Need-loop-holds Inv-loop μ-loop Inv-carriers μ-carriers
-loop-holds c = (turn-looks (turn (c .before .before .before .before .before .before .before)) (c .before .before .before .reverse .ensures) (c .before .add .ensures) (c .before .add .kept .1 .0), refl)
+loop-holds c =
+    (turn-looks (turn (c .before .before .before .before .before .before .before)) (c .before .before .before .reverse .ensures) (c .before .add .ensures) (c .before .add .kept .1 .0), refl)
 
 -- at the queue's end
 module _ (c : tie.Then3 Inv-loop μ-loop Inv-carriers μ-carriers) where

@@ -3,5 +3,6 @@ pub mod Looks
 pub mod Trying
 pub mod Retiring
 pub mod Runs
+pub mod CountSteps
 pub mod Sends
 pub mod Prepares

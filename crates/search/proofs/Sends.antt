@@ -29,7 +29,8 @@ use Rattle.search.specs.declared.Goes.{Goes}
 use Rattle.search.specs.declared.Outcome.{Outcome}
 use Rattle.search.specs.declared.Goes.the-variants.{From, Nobody}
 use Rattle.search.proofs.Retiring.{in-order-retire}
-use Rattle.search.proofs.Runs.{run-none, run-out, run-step, searched-most-round, searched-none, searched-out, searched-step}
+use Rattle.search.proofs.Runs.{run-none, run-out, run-step}
+use Rattle.search.proofs.CountSteps.{round-within, searched-none, searched-out, searched-step}
 
 -- the rounds, with the carriers of `written` gone, k words stored and so many words counted
 pub record Underway (t : Track) (follows order : List ℕ) (count : ℕ) (words₀ froms₀ free₀ p₀ plan₀ words froms free p plan : List ℕ) (left k counted : ℕ) : Type 0 where
@@ -98,7 +99,7 @@ module _ {t : Track} {follows order : List ℕ} {count : ℕ} {words₀ froms₀
 
   module _ (some-left : 0 < left) {words′ froms′ : List ℕ} where
     pub underway-few : {r : Outcome} → Sought t p words′ froms′ r → counted + r .searched ≤ 893952
-    underway-few s = omega (arith, s .searched-is, searched-most-round t p (omega (arith, u .still-out)), u .rest-count, u .count-few)
+    underway-few s = omega (arith, s .searched-is, round-within t p (omega (arith, u .still-out)), u .rest-count, u .count-few)
 
     pub underway-nobody : {found : ℕ} → Sought t p words′ froms′ (record { goes = Nobody; searched = found })
         → SentHome t p₀ plan₀ p plan (record { planned = k; searched = counted + found })

@@ -18,10 +18,12 @@ Inv-loop head ends position follows free order count words₀ froms₀ searched�
     Looking (trackOf head ends) position (held / 2) standing words₀ froms₀ words froms enterable found i arrival × (searched ≡ searched₀)
 
 abbrev μ-loop : tie.MeasureT-loop
-μ-loop head ends position follows free order count words₀ froms₀ searched₀ k zone held standing enterable₀ found₀ i₀ arrival₀ words froms searched enterable found i arrival = 2 * head .zones - i
+μ-loop head ends position follows free order count words₀ froms₀ searched₀ k zone held standing enterable₀ found₀ i₀ arrival₀ words froms searched enterable found i arrival =
+    2 * head .zones - i
 
 abbrev Inv-carriers : tie.InvT-carriers
-Inv-carriers head ends position follows free order count words₀ froms₀ searched₀ k₀ words froms searched k = Tried (trackOf head ends) position order count words₀ froms₀ words froms searched k
+Inv-carriers head ends position follows free order count words₀ froms₀ searched₀ k₀ words froms searched k =
+    Tried (trackOf head ends) position order count words₀ froms₀ words froms searched k
 
 abbrev μ-carriers : tie.MeasureT-carriers
 μ-carriers head ends position follows free order count words₀ froms₀ searched₀ k₀ words froms searched k = count - k

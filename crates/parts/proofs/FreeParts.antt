@@ -13,7 +13,7 @@ use Rattle.model.specs.Position.{Position, isFree}
 use Rattle.model.specs.Labels.{label}
 use Rattle.model.proofs.BoolLaws.{not-true-false, same-test}
 use Rattle.model.proofs.CountLaws.{how-many-below-ext}
-use Rattle.model.proofs.LinkLaws.{linked-below}
+use Rattle.model.proofs.LinkLaws.{linked-below, linked-sym, linked-trans}
 use Rattle.model.proofs.LabelLaws.{parts-linked, linked-parts}
 use Rattle.rules.specs.Collapse.{freeParts, loopIn}
 use Rattle.bits.specs.Sets.{hasBit}
@@ -34,6 +34,10 @@ module _ (t : Track) {p : Position} (among : EndsAmong (t .points) (t .zones) (t
   reached : {a b : ℕ} → Linked t (λ z. isFree p z ≡ true) a b → Reach ways a b
   reached = linked-reach t (isFree p) o (goes-free (t .ends) p 0)
 
+  -- free zones lead both ways, so parts do not overlap: a point from which one of the part is reached is in the part
+  pub part-whole : {q part : ℕ} → Grown ways q part → (a b : ℕ) → Reach ways a b → hasBit part b ≡ true → hasBit part a ≡ true
+  part-whole g a b k e = g .whole a (reached (linked-trans t (linked (g .sound b e)) (linked-sym t (linked k))))
+
   module _ {q part : ℕ} (h : q < t .points) (g : Grown ways q part) where
     -- the points grown are those with the label
     part-label : (r : ℕ) → r < t .points → hasBit part r ≡ eqb (label ls r) (label ls q)
@@ -43,7 +47,7 @@ module _ (t : Track) {p : Position} (among : EndsAmong (t .points) (t .zones) (t
         (λ e. eq-eqb (label ls r) (label ls q) (sym (linked-parts t (among .inside) (isFree p) q r h (linked (g .sound r e)))))
         (λ e. g .whole r (reached (parts-linked t (among .inside) (isFree p) q r h k (sym (eqb-true (label ls r) (label ls q) e)))))
 
-    part-inside : (r : ℕ) → hasBit part r ≡ true → r < t .points
+    pub part-inside : (r : ℕ) → hasBit part r ≡ true → r < t .points
     part-inside r e = linked-below t (among .inside) h (linked (g .sound r e))
 
     -- the test of sizes is the test of a loop

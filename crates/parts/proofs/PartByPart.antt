@@ -1,106 +1,177 @@
 -- The free parts taken one by one: what holds at first, after each part and at the end.
--- A part is whole, so the points of parts with a loop that are not left are marked; and each turn leaves fewer points.
-use Prim.Native.Nat.{ℕ, _-_, _*_, _^_, _≤_, _<_}
-use mathlib.Core.Path.{_≡_, refl, sym, ap, _∙_}
+-- What is grown from is made of whole parts, so nothing that is reached from another point is in it; of its points, those of parts with a
+-- loop are marked; and there were as many steps as points. Each part has a point that was not grown from.
+use Prim.Native.Nat.{ℕ, _+_, _-_, _*_, _^_, _≤_, _<_}
+use mathlib.Core.Path.{_≡_, refl, sym, ap, _∙_, subst}
 use mathlib.Core.List.{List}
-use mathlib.Core.Bool.{Bool, true, false, not, _&&_, _||_, or-false, and-false, and-true}
+use mathlib.Core.Logic.{_⊎_, ⊎-elim}
+use mathlib.Core.Bool.{Bool, true, false, _&&_, _||_, or-false, and-false, and-true, true≢false}
 use native.Mathlib.Nat.{lt-of-lt-of-le}
 use native.Mathlib.Omega.{arith}
-use borrow.Author.Tests.{le-leb, lt-leb}
-use lib.Dec.{leb}
+use borrow.Author.Tests.{le-leb, lt-leb, ltb-true, lt-ltb}
+use lib.Dec.{leb, ltb}
 use lib.Bits.{bitOr, or-lt}
-use lib.Count.{ones}
+use lib.Count.{ones, ones-le}
 use lib.Pow.{pow-pos, pow-mono, ones-lt}
 use Rattle.model.specs.Lists.{numbersBelow, howMany}
 use Rattle.model.specs.Track.{Track, start}
 use Rattle.model.specs.Position.{Position, isFree}
 use Rattle.model.specs.Labels.{label}
-use Rattle.model.proofs.ListLaws.{how-many-less, below-mem}
+use Rattle.model.proofs.BoolLaws.{same-test, not-true-false, or-left, or-right, or-cases}
 use Rattle.rules.specs.Collapse.{freeParts, loopIn}
 use Rattle.bits.specs.Sets.{hasBit, setMinus, Lowest}
-use Rattle.bits.proofs.BitLaws.{bit-none, bit-or, bit-minus, bit-all, minus-word, minus-in, minus-gone, bit-below}
-use Rattle.bits.proofs.SizeLaws.{size-count}
-use Rattle.reach.specs.Ways.{Grown}
+use Rattle.bits.proofs.BitLaws.{bit-none, bit-or, bit-all, in-minus, minus-in, minus-not-in, bit-below, word-of-bits}
+use Rattle.bits.proofs.SizeLaws.{size-count, size-apart, size-fewer}
+use Rattle.bits.proofs.FullLaws.{all-full}
+use Rattle.reach.specs.Ways.{Reach}
 use Rattle.reach.specs.Ways.Reach.{here as there}
-use Rattle.parts.specs.Ways.{EndsAmong, goesOn, WaysOn, Looped}
-use Rattle.parts.proofs.FreeParts.{part-alike, part-loop}
+use Rattle.reach.specs.Growing.{Untouched, GrownOnce}
+use Rattle.reach.specs.declared.growing.GrownFrom.{GrownFrom}
+use Rattle.reach.specs.declared.Growth.{Growth}
+use Rattle.parts.specs.Ways.{EndsAmong, goesOn, WaysOn, Looped, EachOnce}
+use Rattle.parts.proofs.FreeParts.{part-alike, part-loop, part-inside, part-whole}
 
-merged : (l r b q : Bool) → (q ≡ true → l ≡ b) → ((l && not r) || (b && q)) ≡ (l && not (r && not q))
-merged true true true true f = refl
-merged true true false true f = sym (f refl)
-merged true false b true f = refl
-merged false r true true f = sym (f refl)
-merged false r false true f = refl
-merged true true true false f = refl
-merged true true false false f = refl
-merged true false b false f = refl
-merged false r true false f = refl
-merged false r false false f = refl
+merged : (l a b q : Bool) → (q ≡ true → l ≡ b) → ((l && a) || (b && q)) ≡ (l && (a || q))
+merged true true b q f = refl
+merged true false true q f = refl
+merged true false false true f = sym (f refl)
+merged true false false false f = refl
+merged false a true true f = sym (f refl)
+merged false a true false f = refl
+merged false a false q f = refl
 
 -- the free part of a point holds a loop
 abbrev loopAt : Track → Position → ℕ → Bool
 loopAt t p q = let ls = freeParts t p in loopIn t p ls (label ls q)
 
--- what holds while parts are taken off: the points of parts with a loop that are not left are marked
-pub record Looping (t : Track) (p : Position) (looped rest : ℕ) : Type 0 where
+-- the points of a track
+abbrev all : Track → ℕ
+all t = 2 ^ t .points - 1
+
+all-word : (t : Track) → t .points ≤ 64 → all t < 2 ^ 64
+all-word t few = lt-of-lt-of-le (ones-lt (t .points)) (pow-mono few)
+
+-- what holds while parts are grown
+pub record Looping (t : Track) (p : Position) (ways : List ℕ) (looped rest : ℕ) (after : GrownFrom) : Type 0 where
   pub looped-word : looped < 2 ^ 64
-  pub rest-word : rest < 2 ^ 64
-  pub rest-in : (q : ℕ) → hasBit rest q ≡ true → q < t .points
-  pub exact : (q : ℕ) → q < t .points → hasBit looped q ≡ (loopAt t p q && not (hasBit rest q))
+  pub points-word : after .points < 2 ^ 64
+  pub rest-is : rest ≡ setMinus (all t) (after .points)
+  pub grown-in : (q : ℕ) → hasBit (after .points) q ≡ true → q < t .points
+  pub whole : (a b : ℕ) → Reach ways a b → hasBit (after .points) b ≡ true → hasBit (after .points) a ≡ true
+  pub count : after .steps ≡ ones (after .points)
+  pub exact : (q : ℕ) → q < t .points → hasBit looped q ≡ (loopAt t p q && hasBit (after .points) q)
 
-module _ {t : Track} {p : Position} where
-  -- all points are left
-  pub looping-none : t .points ≤ 64 → Looping t p 0 (2 ^ t .points - 1)
-  looping-none few = record {
+module _ {t : Track} {p : Position} {ways : List ℕ} where
+  -- nothing is grown from yet
+  pub looping-none : {after : GrownFrom} → after .points ≡ 0 → after .steps ≡ 0 → Looping t p ways 0 (setMinus (all t) (after .points)) after
+  looping-none {after} points steps = record {
     looped-word = pow-pos 64;
-    rest-word = lt-of-lt-of-le (ones-lt (t .points)) (pow-mono few);
-    rest-in = λ q e. bit-below (t .points) (2 ^ t .points - 1) q (ones-lt (t .points)) e;
-    exact = λ q h. bit-none q ∙ sym (ap (λ (b : Bool). loopAt t p q && not b) (bit-all (t .points) q h) ∙ and-false (loopAt t p q));
+    points-word = subst (λ (x : ℕ). x < 2 ^ 64) (sym points) (pow-pos 64);
+    rest-is = refl;
+    grown-in = λ q e. absurd (true≢false (sym e ∙ none q));
+    whole = λ a b k e. absurd (true≢false (sym e ∙ none b));
+    count = steps ∙ sym (ap ones points ∙ size-count 0 0 (pow-pos 0));
+    exact = λ q h. bit-none q ∙ sym (ap (λ (b : Bool). loopAt t p q && b) (none q) ∙ and-false (loopAt t p q));
   }
+    where
+      none : (q : ℕ) → hasBit (after .points) q ≡ false
+      none q = ap (λ (x : ℕ). hasBit x q) points ∙ bit-none q
 
-  -- none is left
-  pub looping-all : {looped : ℕ} → Looping t p looped 0 → Looped t p looped
-  looping-all g = record {
-    word = g .looped-word;
-    exact = λ q h. g .exact q h ∙ ap (λ (b : Bool). loopAt t p q && not b) (bit-none q) ∙ and-true (loopAt t p q);
-  }
+  module _ (few : t .points ≤ 64) {looped rest : ℕ} {after : GrownFrom} (g : Looping t p ways looped rest after) where
+    -- every point is grown from
+    module _ (done : rest ≡ 0) where
+      each : (q : ℕ) → q < t .points → hasBit (after .points) q ≡ true
+      each q h = go (hasBit (after .points) q) refl
+        where
+          go : (b : Bool) → hasBit (after .points) q ≡ b → hasBit (after .points) q ≡ true
+          go true e = e
+          go false e =
+              absurd (true≢false (sym (in-minus (all t) (after .points) q (all-word t few) (g .points-word) (bit-all (t .points) q h) e) ∙ ap (λ (x : ℕ). hasBit x q) (sym (g .rest-is) ∙ done) ∙ bit-none q))
 
-  module _ {looped rest q part : ℕ} {ways : List ℕ} (g : Looping t p looped rest) (low : Lowest rest q) (grown : Grown ways q part) where
-    fewer-in : (r : ℕ) → hasBit (setMinus rest part) r ≡ true → hasBit rest r ≡ true
-    fewer-in r = minus-in rest part r (g .rest-word) (grown .word)
-
-    pub looping-fewer : ones (setMinus rest part) < ones rest
-    looping-fewer =
-        let a : ones (setMinus rest part) ≡ howMany (hasBit (setMinus rest part)) (numbersBelow 64) = size-count 64 (setMinus rest part) (minus-word rest part (g .rest-word)) in
-        let b : ones rest ≡ howMany (hasBit rest) (numbersBelow 64) = size-count 64 rest (g .rest-word) in
-        let c : howMany (hasBit (setMinus rest part)) (numbersBelow 64) < howMany (hasBit rest) (numbersBelow 64) =
-        how-many-less (hasBit (setMinus rest part)) (hasBit rest) (numbersBelow 64) (λ r m. fewer-in r) (below-mem 64 q (low .inside))
-        (minus-gone rest part q (g .rest-word) (grown .word) (grown .whole q there)) (low .there) in
-        omega arith
-
-    module _ (among : EndsAmong (t .points) (t .zones) (t .ends) p) (o : WaysOn (t .ends) (goesOn (t .ends) p false 0) (2 * t .zones) ways) where
-      q-in : q < t .points
-      q-in = g .rest-in q (low .there)
-
-      -- how many free zones start in the part
-      abbrev starting : ℕ
-      starting = howMany (λ z. isFree p z && hasBit part (start t (2 * z))) (numbersBelow (t .zones))
-
-      -- the part of q is taken off, and marked where it holds a loop
-      looping-turn : (marked : ℕ) (b : Bool) → marked < 2 ^ 64 → ((r : ℕ) → hasBit marked r ≡ (hasBit looped r || (b && hasBit part r)))
-          → leb (howMany (hasBit part) (numbersBelow 64)) starting ≡ b → Looping t p marked (setMinus rest part)
-      looping-turn marked b word bits test = record {
-        looped-word = word;
-        rest-word = minus-word rest part (g .rest-word);
-        rest-in = λ r e. g .rest-in r (fewer-in r e);
-        exact = λ r h.
-            bits r ∙ ap (λ (x : Bool). x || (b && hasBit part r)) (g .exact r h)
-            ∙ merged (loopAt t p r) (hasBit rest r) b (hasBit part r) (λ e. part-alike t among o q-in grown r h e ∙ sym (part-loop t among o q-in grown) ∙ test)
-            ∙ ap (λ (x : Bool). loopAt t p r && not x) (sym (bit-minus rest part r (g .rest-word) (grown .word)));
+      pub looping-all : Looped t p looped
+      looping-all = record {
+        word = g .looped-word;
+        exact = λ q h. g .exact q h ∙ ap (λ (b : Bool). loopAt t p q && b) (each q h) ∙ and-true (loopAt t p q);
       }
 
-      pub looping-marks : howMany (hasBit part) (numbersBelow 64) ≤ starting → Looping t p (bitOr looped part) (setMinus rest part)
-      looping-marks h = looping-turn (bitOr looped part) true (or-lt 64 looped part (g .looped-word) (grown .word)) (bit-or looped part) (le-leb _ _ h)
+      small : after .points < 2 ^ t .points
+      small =
+          word-of-bits 64 (t .points) (after .points) (g .points-word)
+          (λ q l. not-true-false (hasBit (after .points) q) (λ e. let i : q < t .points = g .grown-in q e in absurd (omega arith)))
 
-      pub looping-passes : starting < howMany (hasBit part) (numbersBelow 64) → Looping t p looped (setMinus rest part)
-      looping-passes h = looping-turn looped false (g .looped-word) (λ r. sym (or-false (hasBit looped r))) (lt-leb _ _ h)
+      pub looping-once : EachOnce (t .points) after
+      looping-once = record {
+        exactly = λ q. same-test (hasBit (after .points) q) (ltb q (t .points)) (λ e. lt-ltb q (t .points) (g .grown-in q e)) (λ e. each q (ltb-true q (t .points) e));
+        steps = g .count ∙ all-full (t .points) (after .points) small each;
+      }
+
+    -- the part of q, the lowest point not grown from
+    module _ {q : ℕ} (low : Lowest rest q) where
+      left : hasBit (setMinus (all t) (after .points)) q ≡ true
+      left = ap (λ (x : ℕ). hasBit x q) (sym (g .rest-is)) ∙ low .there
+
+      q-in : q < t .points
+      q-in = bit-below (t .points) (all t) q (ones-lt (t .points)) (minus-in (all t) (after .points) q (all-word t few) (g .points-word) left)
+
+      -- nothing that is reached from it is grown from: then it would be itself
+      pub looping-untouched : Untouched ways q after
+      looping-untouched r k =
+          not-true-false (hasBit (after .points) r)
+          (λ e. true≢false (sym (g .whole q r k e) ∙ minus-not-in (all t) (after .points) q (all-word t few) (g .points-word) left))
+
+      module _ {part : Growth} (grown : GrownOnce ways q after part) where
+        apart : ones (bitOr (after .points) (part .found)) ≡ ones (after .points) + ones (part .found)
+        apart =
+            size-apart (after .points) (part .found) (g .points-word) (grown .all .word)
+            (λ r e. not-true-false (hasBit (part .found) r) (λ f. true≢false (sym e ∙ looping-untouched r (grown .all .sound r f))))
+
+        next-word : part .after .points < 2 ^ 64
+        next-word = subst (λ (x : ℕ). x < 2 ^ 64) (sym (grown .points)) (or-lt 64 (after .points) (part .found) (g .points-word) (grown .all .word))
+
+        next-bit : (r : ℕ) → hasBit (part .after .points) r ≡ (hasBit (after .points) r || hasBit (part .found) r)
+        next-bit r = ap (λ (x : ℕ). hasBit x r) (grown .points) ∙ bit-or (after .points) (part .found) r
+
+        -- more points are grown from
+        pub looping-fewer : 64 - ones (part .after .points) < 64 - ones (after .points)
+        looping-fewer =
+            omega (
+              arith,
+              ap ones (grown .points),
+              apart,
+              size-fewer (part .found) q (grown .all .word) (grown .all .whole q there),
+              ones-le 64 (part .after .points) next-word,
+            )
+
+        module _ (among : EndsAmong (t .points) (t .zones) (t .ends) p) (o : WaysOn (t .ends) (goesOn (t .ends) p false 0) (2 * t .zones) ways) where
+          -- how many free zones start in the part
+          abbrev starting : ℕ
+          starting = howMany (λ z. isFree p z && hasBit (part .found) (start t (2 * z))) (numbersBelow (t .zones))
+
+          -- the part is grown from, and marked where it holds a loop
+          looping-turn : (marked : ℕ) (b : Bool) → marked < 2 ^ 64 → ((r : ℕ) → hasBit marked r ≡ (hasBit looped r || (b && hasBit (part .found) r)))
+              → leb (howMany (hasBit (part .found)) (numbersBelow 64)) starting ≡ b → Looping t p ways marked (setMinus (all t) (part .after .points)) (part .after)
+          looping-turn marked b word bits test = record {
+            looped-word = word;
+            points-word = next-word;
+            rest-is = refl;
+            grown-in = λ r e. ⊎-elim (g .grown-in r) (part-inside t among o q-in (grown .all) r) (in-next r e);
+            whole = λ a r k e.
+                next-bit a
+                ∙ ⊎-elim (λ l. or-left (hasBit (after .points) a) (hasBit (part .found) a) (g .whole a r k l))
+                (λ l. or-right (hasBit (after .points) a) (hasBit (part .found) a) (part-whole t among o (grown .all) a r k l)) (in-next r e);
+            count = omega (arith, grown .steps, g .count, ap ones (grown .points), apart, size-count 64 (part .found) (grown .all .word));
+            exact = λ r h.
+                bits r ∙ ap (λ (x : Bool). x || (b && hasBit (part .found) r)) (g .exact r h)
+                ∙ merged (loopAt t p r) (hasBit (after .points) r) b (hasBit (part .found) r)
+                (λ e. part-alike t among o q-in (grown .all) r h e ∙ sym (part-loop t among o q-in (grown .all)) ∙ test)
+                ∙ ap (λ (x : Bool). loopAt t p r && x) (sym (next-bit r));
+          }
+            where
+              in-next : (r : ℕ) → hasBit (part .after .points) r ≡ true → (hasBit (after .points) r ≡ true) ⊎ (hasBit (part .found) r ≡ true)
+              in-next r e = or-cases (hasBit (after .points) r) (hasBit (part .found) r) (sym (next-bit r) ∙ e)
+
+          pub looping-marks : howMany (hasBit (part .found)) (numbersBelow 64) ≤ starting → Looping t p ways (bitOr looped (part .found)) (setMinus (all t) (part .after .points)) (part .after)
+          looping-marks h = looping-turn (bitOr looped (part .found)) true (or-lt 64 looped (part .found) (g .looped-word) (grown .all .word)) (bit-or looped (part .found)) (le-leb _ _ h)
+
+          pub looping-passes : starting < howMany (hasBit (part .found)) (numbersBelow 64) → Looping t p ways looped (setMinus (all t) (part .after .points)) (part .after)
+          looping-passes h = looping-turn looped false (g .looped-word) (λ r. sym (or-false (hasBit looped r))) (lt-leb _ _ h)

@@ -1,11 +1,11 @@
--- What the steps of the collapse on sets of points hand to each other: ways over words, counts of free zones, and the points of the
--- parts with a loop.
+-- What the steps of the collapse on sets of points hand to each other: ways over words, counts of free zones, the points of the parts
+-- with a loop, and the points that the parts were grown from.
 use Prim.Native.Nat.{ℕ, _+_, _*_, _^_, _≤_, _<_}
 use mathlib.Core.List.{List, [], _∷_}
 use mathlib.Core.Path.{_≡_}
 use mathlib.Core.Bool.{Bool, not, _&&_, _||_}
 use lib.ListN.{length, getD}
-use lib.Dec.{eqb}
+use lib.Dec.{eqb, ltb}
 use Rattle.model.specs.Lists.{numbersBelow, keep, howMany}
 use Rattle.model.specs.Track.{Track, zoneOf, headingOf, rev}
 use Rattle.model.specs.Position.{Position, at, isFree}
@@ -13,6 +13,7 @@ use Rattle.model.specs.Labels.{label}
 use Rattle.rules.specs.Collapse.{freeParts, loopIn}
 use Rattle.bits.specs.Sets.{hasBit}
 use Rattle.reach.specs.Ways.{WaysOver}
+use Rattle.reach.specs.declared.growing.GrownFrom.{GrownFrom}
 
 -- two ends for each zone, each of them one of so many points
 pub record EndsAmong (points zones : ℕ) (ends : List ℕ) (p : Position) : Type 0 where
@@ -52,3 +53,9 @@ countIn counts part = sumOver (λ q. getD counts q 0) (keep (hasBit part) (numbe
 pub record Looped (t : Track) (p : Position) (s : ℕ) : Type 0 where
   pub word : s < 2 ^ 64
   pub exact : (q : ℕ) → q < t .points → let ls = freeParts t p in hasBit s q ≡ loopIn t p ls (label ls q)
+
+-- each of so many points was grown from exactly once: no step takes a point that is in the set already, so it is at most once; the set is
+-- exactly the points, so it is at least once; and there were as many steps
+pub record EachOnce (points : ℕ) (after : GrownFrom) : Type 0 where
+  pub exactly : (q : ℕ) → hasBit (after .points) q ≡ ltb q points
+  pub steps : after .steps ≡ points

@@ -1,13 +1,15 @@
 // The collapse of a position on sets of points: the parts over free zones, those with a loop, home's set after joining and merging,
 // and the carriers that the collapse leaves.
 use model::Head;
+use reach::growing;
+use reach::growing::GrownFrom;
 ghost use mathlib.Core.Path.{_≡_};
 ghost use Prim.Native.Nat.{_^_, _<_};
 ghost use lib.ListN.{length, replicate};
 ghost use Rattle.model.specs.Track.{trackOf};
 ghost use Rattle.model.specs.Accepted.{Bounded};
 ghost use Rattle.parts.specs.Home.{HomeWord, leftPosition, Collapsed};
-ghost use Rattle.parts.specs.Ways.{EndsAmong, goesOn, WaysOn, StartCounts, countIn, Looped};
+ghost use Rattle.parts.specs.Ways.{EndsAmong, goesOn, WaysOn, StartCounts, countIn, Looped, EachOnce};
 
 // Whether a set of points goes on over word w: its zone is free; or, in merging, its carrier heads the other way, or leaves at a point
 // of a part with a loop.
@@ -72,26 +74,39 @@ fn zones_in(counts: &[usize], part: u64) -> usize
     n
 }
 
-// The points of the free parts that hold a loop: at least as many free zones as points. The part of the lowest point not yet in one is
-// grown over the ways of free zones.
-fn looped_points(head: Head, ends: &[usize], position: &[u32]) -> u64
+// What going through the free parts gives: the points of those that hold a loop, and what is grown from after all of them.
+struct Parts {
+    looped: u64,
+    after: GrownFrom,
+}
+
+// The points of the free parts that hold a loop: at least as many free zones as points. The part of the lowest point not yet grown from is
+// grown over the ways of free zones, until each point of the board is grown from, once.
+fn looped_points(head: Head, ends: &[usize], position: &[u32]) -> Parts
     requires { ⌜ EndsAmong (head .points) (head .zones) (now ends) (now position) ⌝ }
-    ensures { λ r. ⌜ Looped (trackOf head (now (ends .entry))) (now (position .entry)) r ⌝ }
+    ensures { λ r. ⌜ Looped (trackOf head (now (ends .entry))) (now (position .entry)) (r .looped) × EachOnce (head .points) (r .after) ⌝ }
 {
     let mut ways = [0u64; 64];
     add_ways(ends, position, false, 0, &mut ways);
     let mut counts = [0usize; 64];
     count_starts(head.zones, ends, position, &mut counts);
+    let all = bits::all(head.points);
     let mut looped = 0;
-    let mut rest = bits::all(head.points);
+    let mut after = growing::nothing();
+    let mut rest = growing::fresh(all, after);
     while rest != 0 {
-        let part = reach::grow(&ways, bits::lowest(rest));
-        if bits::size(part) <= zones_in(&counts, part) {
-            looped = looped | part;
+        let first = bits::lowest(rest);
+        let part = reach::grow_once(&ways, first, after);
+        if bits::size(part.found) <= zones_in(&counts, part.found) {
+            looped = looped | part.found;
         }
-        rest = bits::minus(rest, part);
+        after = part.after;
+        rest = growing::fresh(all, after);
     }
-    looped
+    Parts {
+        looped: looped,
+        after: after,
+    }
 }
 
 // Home's set of points at the end of the collapse. Joining and merging are one growing: a joined zone is gone over both ways, and a
@@ -100,9 +115,9 @@ fn home_set(head: Head, ends: &[usize], position: &[u32]) -> u64
     requires { ⌜ Bounded (trackOf head (now ends)) (now position) ⌝ }
     ensures { λ r. ⌜ HomeWord (trackOf head (now (ends .entry))) (now (position .entry)) r ⌝ }
 {
-    let looped = looped_points(head, ends, position);
+    let parts = looped_points(head, ends, position);
     let mut ways = [0u64; 64];
-    add_ways(ends, position, true, looped, &mut ways);
+    add_ways(ends, position, true, parts.looped, &mut ways);
     reach::grow(&ways, head.home)
 }
 

@@ -1,111 +1,149 @@
--- What holds while a set grows: the points found are reached, and what is a way beyond those not fresh is found.
--- At the start, after each turn and at the end; and each turn leaves fewer points to grow from.
+-- What holds while a set grows: the points found are reached; those grown from are the ones before and some found; where a way leads from a
+-- found point that is grown from is found; and there are as many steps more as points. At the start, after each step and at the end.
+-- What is reached was not grown from before, so what is found and not yet grown from is just what is still to be grown from.
 use Prim.Native.Nat.{ℕ, _+_, _-_, _^_, _<_}
 use mathlib.Core.Path.{_≡_, refl, sym, ap, _∙_, subst}
 use mathlib.Core.List.{List}
-use mathlib.Core.Logic.{⊎-elim}
+use mathlib.Core.Logic.{_⊎_, inl, inr, ⊎-elim}
 use mathlib.Core.Bool.{Bool, true, false, true≢false}
 use native.Mathlib.Omega.{arith}
-use borrow.Author.Tests.{eqb-true, eqb-false}
-use lib.Dec.{eqb}
 use lib.ListN.{getD}
 use lib.Bits.{bitOr, or-lt}
 use lib.Count.{ones, ones-le}
+use Rattle.model.proofs.BoolLaws.{same-test, not-true-false}
 use Rattle.bits.specs.Sets.{hasBit, setMinus, Lowest}
-use Rattle.bits.proofs.BitLaws.{bit-none, in-or, or-left, or-right, neither-left, in-minus, minus-in, minus-gone, minus-word, alone-there, alone-only, alone-other, alone-word}
-use Rattle.bits.proofs.SizeLaws.{size-both, size-apart, size-fewer}
-use Rattle.reach.specs.Ways.{Reach, Grown}
+use Rattle.bits.proofs.BitLaws.{bit-none, in-or, or-left, or-right, in-minus, minus-in, minus-not-in, same-bits, alone-there, alone-only, alone-other, alone-word}
+use Rattle.bits.proofs.SizeLaws.{size-alone, size-apart, size-count}
+use Rattle.reach.specs.Ways.{Reach}
 use Rattle.reach.specs.Ways.Reach.{here, on}
+use Rattle.reach.specs.Growing.{Untouched, GrownOnce}
+use Rattle.reach.specs.declared.growing.GrownFrom.{GrownFrom}
 
-pub record Growing (ways : List ℕ) (from found fresh : ℕ) : Type 0 where
+pub record Growing (ways : List ℕ) (from : ℕ) (before after : GrownFrom) (found fresh : ℕ) : Type 0 where
   pub found-word : found < 2 ^ 64
-  pub fresh-word : fresh < 2 ^ 64
+  pub points-word : after .points < 2 ^ 64
+  pub fresh-is : fresh ≡ setMinus found (after .points)
   pub start : hasBit found from ≡ true
-  pub within : (q : ℕ) → hasBit fresh q ≡ true → hasBit found q ≡ true
   pub sound : (q : ℕ) → hasBit found q ≡ true → Reach ways from q
-  -- a point that is not fresh was grown from
-  pub grown : (q r : ℕ) → hasBit found q ≡ true → hasBit fresh q ≡ false → hasBit (getD ways q 0) r ≡ true → hasBit found r ≡ true
+  pub kept : (q : ℕ) → hasBit (before .points) q ≡ true → hasBit (after .points) q ≡ true
+  pub within : (q : ℕ) → hasBit (after .points) q ≡ true → (hasBit (before .points) q ≡ true) ⊎ (hasBit found q ≡ true)
+  pub grown : (q r : ℕ) → hasBit found q ≡ true → hasBit (after .points) q ≡ true → hasBit (getD ways q 0) r ≡ true → hasBit found r ≡ true
+  pub count : after .steps + ones (before .points) ≡ before .steps + ones (after .points)
 
-pub begins : {ways : List ℕ} {from : ℕ} → from < 64 → Growing ways from (2 ^ from) (2 ^ from)
-begins {ways} {from} l = record {
+-- at the start the one point found is from, which is not grown from
+pub begins : {ways : List ℕ} {from : ℕ} {before : GrownFrom} → from < 64 → before .points < 2 ^ 64 → Untouched ways from before
+    → Growing ways from before before (2 ^ from) (setMinus (2 ^ from) (before .points))
+begins {ways} {from} {before} l word untouched = record {
   found-word = alone-word from l;
-  fresh-word = alone-word from l;
+  points-word = word;
+  fresh-is = refl;
   start = alone-there from;
-  within = λ q e. e;
-  sound = λ q e. subst (Reach ways from) (sym (alone-only from q e)) here;
-  grown = λ q r e n w. absurd (true≢false (sym e ∙ n));
+  sound = sound;
+  kept = λ q e. e;
+  within = λ q e. inl e;
+  grown = λ q r e k w. absurd (true≢false (sym k ∙ untouched q (sound q e)));
+  count = refl;
 }
+  where
+    sound : (q : ℕ) → hasBit (2 ^ from) q ≡ true → Reach ways from q
+    sound q e = subst (Reach ways from) (sym (alone-only from q e)) here
 
--- the fresh points after p is grown from; the points that its ways bring
-abbrev pub leftOf : ℕ → ℕ → ℕ
-leftOf fresh p = setMinus fresh (2 ^ p)
+module _ {ways : List ℕ} {from found fresh : ℕ} {before after : GrownFrom} (untouched : Untouched ways from before) (g : Growing ways from before after found fresh) where
+  -- a step: p is fresh, and its word fits
+  module _ {p : ℕ} (low : Lowest fresh p) (h : getD ways p 0 < 2 ^ 64) where
+    abbrev more : ℕ
+    more = bitOr found (getD ways p 0)
 
-abbrev pub newOf : List ℕ → ℕ → ℕ → ℕ
-newOf ways found p = setMinus (getD ways p 0) found
+    p-left : hasBit (setMinus found (after .points)) p ≡ true
+    p-left = ap (λ (x : ℕ). hasBit x p) (sym (g .fresh-is)) ∙ low .there
 
--- a turn: p is fresh, and its word fits
-module _ {ways : List ℕ} {from found fresh p : ℕ} (g : Growing ways from found fresh) (low : Lowest fresh p) (h : getD ways p 0 < 2 ^ 64) where
-  one : 2 ^ p < 2 ^ 64
-  one = alone-word p (low .inside)
+    pub step-found : hasBit found p ≡ true
+    step-found = minus-in found (after .points) p (g .found-word) (g .points-word) p-left
 
-  left-word : leftOf fresh p < 2 ^ 64
-  left-word = minus-word fresh (2 ^ p) (g .fresh-word)
+    -- what the step asks: p is not grown from yet
+    pub step-new : hasBit (after .points) p ≡ false
+    step-new = minus-not-in found (after .points) p (g .found-word) (g .points-word) p-left
 
-  new-word : newOf ways found p < 2 ^ 64
-  new-word = minus-word (getD ways p 0) found h
+    added-size : ones (bitOr (after .points) (2 ^ p)) ≡ ones (after .points) + 1
+    added-size =
+        size-apart (after .points) (2 ^ p) (g .points-word) (alone-word p (low .inside)) (λ q u. alone-other p q (λ v. true≢false (sym u ∙ ap (hasBit (after .points)) v ∙ step-new)))
+        ∙ ap (λ (n : ℕ). ones (after .points) + n) (size-alone p)
 
-  -- what is new is reached by one way more
-  new-sound : (q : ℕ) → hasBit (newOf ways found p) q ≡ true → Reach ways from q
-  new-sound q e = on (g .sound p (g .within p (low .there))) (minus-in (getD ways p 0) found q h (g .found-word) e)
+    added-word : bitOr (after .points) (2 ^ p) < 2 ^ 64
+    added-word = or-lt 64 (after .points) (2 ^ p) (g .points-word) (alone-word p (low .inside))
 
-  -- where a way of p leads is found or new
-  way-found : (r : ℕ) → hasBit (getD ways p 0) r ≡ true → hasBit (bitOr found (newOf ways found p)) r ≡ true
-  way-found r w = go (hasBit found r) refl
-    where
-      go : (b : Bool) → hasBit found r ≡ b → hasBit (bitOr found (newOf ways found p)) r ≡ true
-      go true e = or-left found (newOf ways found p) r e
-      go false e = or-right found (newOf ways found p) r (in-minus (getD ways p 0) found r h (g .found-word) w e)
+    -- and there is room for it in the count
+    pub step-room : before .steps + 64 < 2 ^ 64 → after .steps + 1 < 2 ^ 64
+    step-room r = omega (arith, g .count, added-size, ones-le 64 (bitOr (after .points) (2 ^ p)) added-word)
 
-  -- a point found before and not left fresh is p or was grown from
-  old-found : (q r : ℕ) → hasBit found q ≡ true → hasBit (leftOf fresh p) q ≡ false → hasBit (getD ways q 0) r ≡ true
-      → hasBit (bitOr found (newOf ways found p)) r ≡ true
-  old-found q r e n w = go (eqb q p) refl (hasBit fresh q) refl
-    where
-      go : (a : Bool) → eqb q p ≡ a → (b : Bool) → hasBit fresh q ≡ b → hasBit (bitOr found (newOf ways found p)) r ≡ true
-      go true a b k = way-found r (ap (λ (x : ℕ). hasBit (getD ways x 0) r) (sym (eqb-true q p a)) ∙ w)
-      go false a true k =
-          absurd (true≢false (sym (in-minus fresh (2 ^ p) q (g .fresh-word) one k (alone-other p q (eqb-false q p a))) ∙ n))
-      go false a false k = or-left found (newOf ways found p) r (g .grown q r e k w)
+    -- what is found after it is reached
+    more-sound : (q : ℕ) → hasBit more q ≡ true → Reach ways from q
+    more-sound q e = ⊎-elim (g .sound q) (on (g .sound p step-found)) (in-or found (getD ways p 0) q e)
 
-  pub turns : Growing ways from (bitOr found (newOf ways found p)) (bitOr (leftOf fresh p) (newOf ways found p))
-  turns = record {
-    found-word = or-lt 64 found (newOf ways found p) (g .found-word) new-word;
-    fresh-word = or-lt 64 (leftOf fresh p) (newOf ways found p) left-word new-word;
-    start = or-left found (newOf ways found p) from (g .start);
-    within = λ q e.
-        ⊎-elim (λ l. or-left found (newOf ways found p) q (g .within q (minus-in fresh (2 ^ p) q (g .fresh-word) one l)))
-        (or-right found (newOf ways found p) q) (in-or (leftOf fresh p) (newOf ways found p) q e);
-    sound = λ q e. ⊎-elim (g .sound q) (new-sound q) (in-or found (newOf ways found p) q e);
-    grown = λ q r e n w.
-        ⊎-elim (λ k. old-found q r k (neither-left (leftOf fresh p) (newOf ways found p) q n) w)
-        (λ k. absurd (true≢false (sym (or-right (leftOf fresh p) (newOf ways found p) q k) ∙ n))) (in-or found (newOf ways found p) q e);
-  }
+    module _ {next : GrownFrom} (points : next .points ≡ bitOr (after .points) (2 ^ p)) (steps : next .steps ≡ after .steps + 1) where
+      in-next : (q : ℕ) → hasBit (next .points) q ≡ true → (hasBit (after .points) q ≡ true) ⊎ (q ≡ p)
+      in-next q e = ⊎-elim inl (λ k. inr (alone-only p q k)) (in-or (after .points) (2 ^ p) q (ap (λ (x : ℕ). hasBit x q) (sym points) ∙ e))
 
-  -- fewer points are left that are not yet grown from
-  pub fewer : ones (bitOr (leftOf fresh p) (newOf ways found p)) + (64 - ones (bitOr found (newOf ways found p))) < ones fresh + (64 - ones found)
-  fewer =
-      omega (
-        arith,
-        size-both (leftOf fresh p) (newOf ways found p),
-        size-apart found (newOf ways found p) (g .found-word) new-word (λ q. minus-gone (getD ways p 0) found q h (g .found-word)),
-        size-fewer fresh p (g .fresh-word) (low .there),
-        ones-le 64 (bitOr found (newOf ways found p)) (or-lt 64 found (newOf ways found p) (g .found-word) new-word),
-      )
+      next-word : next .points < 2 ^ 64
+      next-word = subst (λ (x : ℕ). x < 2 ^ 64) (sym points) added-word
 
--- where nothing is fresh, all that is reached is found
-reached : {ways : List ℕ} {from found : ℕ} → Growing ways from found 0 → (q : ℕ) → Reach ways from q → hasBit found q ≡ true
-reached g q here = g .start
-reached g q (on {q = m} k w) = g .grown m q (reached g m k) (bit-none m) w
+      -- a point found that is grown from is p, or it was found and grown from before the step: it was not grown from before the growing
+      next-grown : (q r : ℕ) → hasBit more q ≡ true → hasBit (next .points) q ≡ true → hasBit (getD ways q 0) r ≡ true → hasBit more r ≡ true
+      next-grown q r e k w =
+          ⊎-elim
+          (λ a. ⊎-elim (λ b. absurd (true≢false (sym b ∙ untouched q (more-sound q e)))) (λ f. or-left found (getD ways p 0) r (g .grown q r f a w)) (g .within q a))
+          (λ u. or-right found (getD ways p 0) r (ap (λ (x : ℕ). hasBit (getD ways x 0) r) (sym u) ∙ w))
+          (in-next q k)
 
-pub ends : {ways : List ℕ} {from found : ℕ} → Growing ways from found 0 → Grown ways from found
-ends g = record { word = g .found-word; sound = g .sound; whole = reached g }
+      pub turns : Growing ways from before next more (setMinus more (next .points))
+      turns = record {
+        found-word = or-lt 64 found (getD ways p 0) (g .found-word) h;
+        points-word = next-word;
+        fresh-is = refl;
+        start = or-left found (getD ways p 0) from (g .start);
+        sound = more-sound;
+        kept = λ q e. ap (λ (x : ℕ). hasBit x q) points ∙ or-left (after .points) (2 ^ p) q (g .kept q e);
+        within = λ q e.
+            ⊎-elim (λ a. ⊎-elim inl (λ f. inr (or-left found (getD ways p 0) q f)) (g .within q a))
+            (λ u. inr (or-left found (getD ways p 0) q (ap (hasBit found) u ∙ step-found))) (in-next q e);
+        grown = next-grown;
+        count = omega (arith, g .count, steps, ap ones points, added-size);
+      }
+
+      -- fewer points are not grown from
+      pub fewer : 64 - ones (next .points) < 64 - ones (after .points)
+      fewer = omega (arith, ap ones points, added-size, ones-le 64 (next .points) next-word)
+
+  -- where nothing is fresh, all that is reached is found and grown from
+  module _ (none : fresh ≡ 0) (word : before .points < 2 ^ 64) where
+    covered : (q : ℕ) → hasBit found q ≡ true → hasBit (after .points) q ≡ true
+    covered q e = go (hasBit (after .points) q) refl
+      where
+        go : (b : Bool) → hasBit (after .points) q ≡ b → hasBit (after .points) q ≡ true
+        go true k = k
+        go false k =
+            absurd (true≢false (sym (in-minus found (after .points) q (g .found-word) (g .points-word) e k) ∙ ap (λ (x : ℕ). hasBit x q) (sym (g .fresh-is) ∙ none) ∙ bit-none q))
+
+    reached : (q : ℕ) → Reach ways from q → hasBit found q ≡ true
+    reached q here = g .start
+    reached q (on {q = m} k w) = g .grown m q (reached m k) (covered m (reached m k)) w
+
+    points-all : after .points ≡ bitOr (before .points) found
+    points-all =
+        same-bits 64 (after .points) (bitOr (before .points) found) (g .points-word) (or-lt 64 (before .points) found word (g .found-word))
+        (λ q l.
+        same-test (hasBit (after .points) q) (hasBit (bitOr (before .points) found) q)
+        (λ e. ⊎-elim (or-left (before .points) found q) (or-right (before .points) found q) (g .within q e))
+        (λ e. ⊎-elim (g .kept q) (covered q) (in-or (before .points) found q e)))
+
+    apart : ones (bitOr (before .points) found) ≡ ones (before .points) + ones found
+    apart =
+        size-apart (before .points) found word (g .found-word)
+        (λ q e. not-true-false (hasBit found q) (λ f. true≢false (sym e ∙ untouched q (g .sound q f))))
+
+    pub ends : GrownOnce ways from before (record { found = found; after = after })
+    ends = record {
+      all = record { word = g .found-word; sound = g .sound; whole = reached };
+      points = points-all;
+      steps = omega (arith, g .count, ap ones points-all, apart, size-count 64 found (g .found-word));
+    }

@@ -1,9 +1,13 @@
 // Sets of points reached over ways: for each point the set of those that a way leads to.
+pub mod growing;
+
+use growing::GrownFrom;
 ghost use mathlib.Core.Path.{_≡_};
-ghost use Prim.Native.Nat.{_^_, _<_};
+ghost use Prim.Native.Nat.{_+_, _^_, _<_};
 ghost use lib.ListN.{length, getD, set};
 ghost use lib.Bits.{bitOr};
 ghost use Rattle.reach.specs.Ways.{Ways, Grown};
+ghost use Rattle.reach.specs.Growing.{Untouched, GrownOnce};
 
 // One way more, from p to q.
 pub fn add_way(ways: &mut [u64], p: usize, q: usize)
@@ -13,18 +17,39 @@ pub fn add_way(ways: &mut [u64], p: usize, q: usize)
     ways[p] = bits::with(ways[p], q);
 }
 
-// All points reached from one. The lowest point not yet grown from brings those that its ways lead to and that are new.
+// What a growing gives: the points found, and what is grown from after it.
+pub struct Growth {
+    pub found: u64,
+    pub after: GrownFrom,
+}
+
+// All points reached from one, none of which is grown from yet. A point last added, that is found and not yet grown from, brings those that
+// its ways lead to; the lowest such goes first.
+pub fn grow_once(ways: &[u64], from: usize, before: GrownFrom) -> Growth
+    requires { ⌜ (from < length (now ways)) × Ways (now ways) × Untouched (now ways) from before × (before .steps + 64 < 2 ^ 64) ⌝ }
+    ensures { λ r. ⌜ GrownOnce (now (ways .entry)) from before r ⌝ }
+{
+    let mut found = bits::with(0, from);
+    let mut after = before;
+    let mut fresh = growing::fresh(found, after);
+    while fresh != 0 {
+        let p = bits::lowest(fresh);
+        let stepped = growing::step(ways, p, after);
+        found = found | stepped.leads;
+        after = stepped.after;
+        fresh = growing::fresh(found, after);
+    }
+    Growth {
+        found: found,
+        after: after,
+    }
+}
+
+// All points reached from one, where no other growing is counted with it.
 pub fn grow(ways: &[u64], from: usize) -> u64
     requires { ⌜ (from < length (now ways)) × Ways (now ways) ⌝ }
     ensures { λ r. ⌜ Grown (now (ways .entry)) from r ⌝ }
 {
-    let mut found = bits::with(0, from);
-    let mut fresh = found;
-    while fresh != 0 {
-        let p = bits::lowest(fresh);
-        let new = bits::minus(ways[p], found);
-        found = found | new;
-        fresh = bits::but_lowest(fresh) | new;
-    }
-    found
+    let growth = grow_once(ways, from, growing::nothing());
+    growth.found
 }

@@ -31,7 +31,7 @@ returns : tie.Need-returns
 returns c =
     let made = c .before .before .before in
     let a = made .before .before .before .before .before in
-    grown-home (a .pre .laid) (made .before .before .looped-points .ensures) (over-all (bounded-among (a .pre)) (made .add-ways .ensures)) (c .grow .ensures)
+    grown-home (a .pre .laid) (made .before .before .looped-points .ensures .0) (over-all (bounded-among (a .pre)) (made .add-ways .ensures)) (c .grow .ensures)
 
 pub home-set-spec : {M : Type 1} → statement M
 home-set-spec =

@@ -36,10 +36,10 @@ fn mark(board: &[u8], sheet: &[u16]) -> u32 {
 type Pair<'a> = (&'a Vec<u8>, &'a Vec<u16>);
 
 /// Nine measurements by turns, in each of which a build goes over all boards so many times; the row has the median of their ratios.
-fn measured(name: &str, what: &str, repeats: usize, pairs: &[Pair], mut ours: impl FnMut(&Pair), mut before: impl FnMut(&Pair)) {
-    let [ours, before] = times(9, repeats * pairs.len(), [
-        &mut || (0..repeats).for_each(|_| pairs.iter().for_each(&mut ours)),
-        &mut || (0..repeats).for_each(|_| pairs.iter().for_each(&mut before)),
+fn measured<T>(name: &str, what: &str, repeats: usize, boards: &[T], mut ours: impl FnMut(&T), mut before: impl FnMut(&T)) {
+    let [ours, before] = times(9, repeats * boards.len(), [
+        &mut || (0..repeats).for_each(|_| boards.iter().for_each(&mut ours)),
+        &mut || (0..repeats).for_each(|_| boards.iter().for_each(&mut before)),
     ]);
     row(name, what, &ours, &[("before", &before)]);
 }
@@ -52,7 +52,6 @@ pub fn group(name: &str, pairs: &[Pair], rounds: usize) {
         let ours = nizkabel::key(board, &mut plan, &mut list);
         assert_eq!(key(board, &mut plan2, &mut list2), [ours.verdict, ours.planned as u32, ours.listed as u32]);
         assert_eq!(plan2, plan);
-        assert_eq!(collapse(board, &mut list2), [0, ours.listed as u32]);
         assert_eq!(mark(board, sheet), 0);
     }
     measured(
@@ -60,14 +59,24 @@ pub fn group(name: &str, pairs: &[Pair], rounds: usize) {
         |(b, _)| { black_box(nizkabel::key(black_box(b), &mut plan, &mut list)); },
         |(b, _)| { black_box(key(black_box(b), &mut plan2, &mut list2)); },
     );
-    measured(
-        name, "collapse", rounds, pairs,
-        |(b, _)| { black_box(nizkabel::collapse(black_box(b), &mut list)); },
-        |(b, _)| { black_box(collapse(black_box(b), &mut list2)); },
-    );
+    collapses(name, &pairs.iter().map(|(board, _)| *board).collect::<Vec<_>>(), rounds);
     measured(
         name, "mark", rounds, pairs,
         |(b, s)| { black_box(nizkabel::mark(black_box(b), s)); },
         |(b, s)| { black_box(mark(black_box(b), s)); },
+    );
+}
+
+/// The row of the collapse, on boards in version 1.
+pub fn collapses(name: &str, boards: &[&Vec<u8>], rounds: usize) {
+    let (mut list, mut list2) = (vec![0u16; 96], vec![0u16; 96]);
+    for board in boards {
+        let ours = nizkabel::collapse(board, &mut list);
+        assert_eq!(collapse(board, &mut list2), [ours.number, ours.listed as u32]);
+    }
+    measured(
+        name, "collapse", rounds, boards,
+        |b| { black_box(nizkabel::collapse(black_box(b), &mut list)); },
+        |b| { black_box(collapse(black_box(b), &mut list2)); },
     );
 }

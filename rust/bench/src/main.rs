@@ -81,12 +81,7 @@ fn group(name: &str, boards: &[Board], rounds: usize) {
     let few = &bytes[..n.min(4)];
     let [key_second] = times(1, few.len(), [&mut || few.iter().for_each(|b| { black_box(second::key(black_box(b), 96 * 194, 96)); })]);
     row(name, "key", &key, &[("port", &key_port), ("scan", &key_scan), ("second", &key_second)]);
-    let [collapse, collapse_port] = times(10 * rounds, n, [
-        &mut || bytes.iter().for_each(|b| { black_box(nizkabel::collapse(black_box(b), &mut list)); }),
-        &mut || bytes.iter().for_each(|b| { black_box(port::collapse(black_box(b), &mut list2)); }),
-    ]);
-    let [collapse_second] = times(2, n, [&mut || bytes.iter().for_each(|b| { black_box(second::collapse(black_box(b), 96)); })]);
-    row(name, "collapse", &collapse, &[("port", &collapse_port), ("second", &collapse_second)]);
+    collapses(name, &bytes, rounds);
     let pairs: Vec<(&Vec<u8>, &Vec<u16>)> = bytes.iter().zip(&sheets).collect();
     let [mark, mark_port] = times(10 * rounds, n, [
         &mut || pairs.iter().for_each(|(b, s)| { black_box(nizkabel::mark(black_box(b), s)); }),
@@ -100,12 +95,36 @@ fn group(name: &str, boards: &[Board], rounds: usize) {
     }
 }
 
+fn collapses(name: &str, bytes: &[Vec<u8>], rounds: usize) {
+    let (mut list, mut list2) = (vec![0u16; 96], vec![0u16; 96]);
+    let n = bytes.len();
+    let [collapse, collapse_port] = times(10 * rounds, n, [
+        &mut || bytes.iter().for_each(|b| { black_box(nizkabel::collapse(black_box(b), &mut list)); }),
+        &mut || bytes.iter().for_each(|b| { black_box(port::collapse(black_box(b), &mut list2)); }),
+    ]);
+    let [collapse_second] = times(2, n, [&mut || bytes.iter().for_each(|b| { black_box(second::collapse(black_box(b), 96)); })]);
+    row(name, "collapse", &collapse, &[("port", &collapse_port), ("second", &collapse_second)]);
+}
+
 /// One line: the median time, and the median over the rounds of its ratio to each other program's time in the same round. The second
 /// implementation is timed apart, in few rounds on few boards: its ratio tells only the order of size.
 fn row(name: &str, what: &str, ours: &[f64], others: &[(&str, &[f64])]) {
     let ratio = |others: &[f64]| median(ours.iter().zip(others).map(|(a, b)| a / b).collect());
     let ratios: Vec<String> = others.iter().map(|(who, times)| format!("{who} {:.3}", ratio(times))).collect();
     println!("{name:<8} {what:<9} {:>10.0} ns   {}", median(ours.to_vec()), ratios.join("   "));
+}
+
+/// The collapse of a chain: how its time grows with the points.
+fn chains(name: &str, board: Board) {
+    let name = format!("{name} {}", board.points);
+    let bytes = vec![board.bytes(); 200];
+    let (mut list, mut list2) = (vec![0u16; 96], vec![0u16; 96]);
+    let ours = nizkabel::collapse(&bytes[0], &mut list);
+    assert_eq!((ours.number, ours.listed), port::collapse(&bytes[0], &mut list2));
+    assert_eq!(list, list2);
+    collapses(&name, &bytes, 100);
+    #[cfg(before)]
+    before::collapses(&name, &bytes.iter().collect::<Vec<_>>(), 100);
 }
 
 fn main() {
@@ -129,4 +148,10 @@ fn main() {
     group("large 2", &renumbered(&large, |c| c + 256), 100);
     group("full 2", &renumbered(&full, |c| c + 256), 100);
     group("alike 2", &renumbered(&full, |c| c * 256), 100);
+    // Chains, whose free parts are one of all points, one of each point, and one of every two.
+    for points in [8, 16, 32, 64] {
+        chains("free", boards::chain(points, |_| false));
+        chains("held", boards::chain(points, |_| true));
+        chains("pairs", boards::chain(points, |z| z % 2 == 1));
+    }
 }

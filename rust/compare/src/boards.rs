@@ -1,5 +1,5 @@
-//! Random boards: accepted ones of every density, with carriers' numbers of every kind, and damaged ones; every small board; and one that is
-//! long to search.
+//! Random boards: accepted ones of every density, with carriers' numbers of every kind, and damaged ones; every small board; one that is
+//! long to search; and chains.
 
 use crate::random::Random;
 use second::{Board, Zone};
@@ -76,6 +76,23 @@ pub fn worst() -> Board {
         zones.push(Zone { a, b, carrier: 1 + i as u32, heading: (i % 2) as u32 });
     }
     Board { points: exit + around, home: 0, zones }
+}
+
+/// A chain of points from home on with a turning loop at its far end, in which the zones that are held have carriers that head for home.
+pub fn chain(points: usize, held: impl Fn(usize) -> bool) -> Board {
+    let zone = |z| {
+        let carrier = if held(z) { 1 + z as u32 } else { 0 };
+        Zone { a: z, b: (z + 1).min(points - 1), carrier, heading: carrier.min(1) }
+    };
+    Board { points, home: 0, zones: (0..points).map(zone).collect() }
+}
+
+/// The board with each carrier's heading drawn anew.
+pub fn headed(random: &mut Random, mut board: Board) -> Board {
+    for zone in board.zones.iter_mut().filter(|z| z.carrier != 0) {
+        zone.heading = random.below(2) as u32;
+    }
+    board
 }
 
 /// How the carriers are numbered.

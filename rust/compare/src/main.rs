@@ -305,6 +305,15 @@ fn main() {
         compare_key(&mut tally, &bytes, 8, 8);
     }
     compare_board(&mut tally, &mut random, &boards::worst());
+    // Chains of every length, whose free parts are one of all points, one of each point, and one of every two.
+    for points in 2..=64 {
+        for held in [|_| false, |_| true, |z| z % 2 == 1] {
+            let board = boards::chain(points, held);
+            compare_board(&mut tally, &mut random, &board);
+            let board = boards::headed(&mut random, board);
+            compare_board(&mut tally, &mut random, &board);
+        }
+    }
     if !tally.loops.fair() {
         println!("too few boards or sheets with turning loops of some kind: {:?}", tally.loops);
         std::process::exit(1);

@@ -166,13 +166,6 @@ module _ (s t p : ℕ) where
   pub or-right : hasBit t p ≡ true → hasBit (bitOr s t) p ≡ true
   or-right e = bit-or s t p ∙ ap (λ (b : Bool). hasBit s p || b) e ∙ or-true (hasBit s p)
 
-  pub neither-left : hasBit (bitOr s t) p ≡ false → hasBit s p ≡ false
-  neither-left e = go (hasBit s p) refl
-    where
-      go : (b : Bool) → hasBit s p ≡ b → hasBit s p ≡ false
-      go true k = absurd (true≢false (sym (or-left k) ∙ e))
-      go false k = k
-
   module _ (h : s < 2 ^ 64) (g : t < 2 ^ 64) where
     pub minus-in : hasBit (setMinus s t) p ≡ true → hasBit s p ≡ true
     minus-in e = and-left (hasBit s p) (not (hasBit t p)) (sym (bit-minus s t p h g) ∙ e)
@@ -185,6 +178,14 @@ module _ (s t p : ℕ) where
 
     pub in-minus : hasBit s p ≡ true → hasBit t p ≡ false → hasBit (setMinus s t) p ≡ true
     in-minus e n = bit-minus s t p h g ∙ ap₂ (λ (a b : Bool). a && not b) e n
+
+    -- where nothing of s is outside t
+    pub minus-none : setMinus s t ≡ 0 → hasBit s p ≡ true → hasBit t p ≡ true
+    minus-none z e = go (hasBit t p) refl
+      where
+        go : (b : Bool) → hasBit t p ≡ b → hasBit t p ≡ true
+        go true k = k
+        go false k = absurd (true≢false (sym (in-minus e k) ∙ ap (λ (x : ℕ). hasBit x p) z ∙ bit-none p))
 
 pub alone-there : (p : ℕ) → hasBit (2 ^ p) p ≡ true
 alone-there p = bit-alone p p ∙ eq-eqb p p refl

@@ -1,9 +1,9 @@
--- How many numbers are in a set: the count of set bits says it, sets apart add up, and a number taken away makes one fewer.
+-- How many numbers are in a set: the count of set bits says it, sets apart add up, a number put in makes one more, and one taken away one fewer.
 -- Digit by digit: the count is the lowest digit and the count of the rest.
 use Prim.Native.Nat.{ℕ, zero, suc, _+_, _*_, _/_, _%_, _^_, _≤_, _<_, min, max}
 use mathlib.Core.Path.{_≡_, refl, sym, ap, _∙_, fun-ext}
 use mathlib.Core.List.{List}
-use mathlib.Core.Bool.{Bool, true, false, not, _&&_, _||_}
+use mathlib.Core.Bool.{Bool, true, false, not, _&&_, _||_, true≢false}
 use native.Mathlib.Nat.{pow-suc}
 use native.Mathlib.Omega.{arith}
 use lib.ListN.{length}
@@ -14,7 +14,7 @@ use lib.Pow.{pow-pos}
 use lib.Count.{ones, ones-step}
 use Rattle.model.specs.Lists.{countUp, numbersBelow, consIf, keep, howMany}
 use Rattle.bits.specs.Sets.{hasBit, setMinus}
-use Rattle.bits.proofs.BitLaws.{bit-first, bit-next, bit-none, bit-and, bit-or, bit-minus, half-below, word-of-bits, same-bits, minus-word, minus-not-in, alone-only, alone-word, bit-below}
+use Rattle.bits.proofs.BitLaws.{bit-first, bit-next, bit-none, bit-and, bit-or, bit-minus, half-below, word-of-bits, same-bits, minus-word, minus-not-in, alone-only, alone-other, alone-word, bit-below}
 
 length-consIf : (b : Bool) (x y : ℕ) (k l : List ℕ) → length k ≡ length l → length (consIf b x k) ≡ length (consIf b y l)
 length-consIf true x y k l e = ap suc e
@@ -32,7 +32,7 @@ length-digit zero x l h = omega arith
 length-digit (suc zero) x l h = omega arith
 length-digit (suc (suc d)) x l h = absurd (omega arith)
 
-none-set : ones 0 ≡ 0
+pub none-set : ones 0 ≡ 0
 unfolding ones
 none-set = refl
 
@@ -55,7 +55,7 @@ pub count-within : (k s : ℕ) → s < 2 ^ 64 → ((p : ℕ) → k ≤ p → has
 count-within k s h none = sym (size-count 64 s h) ∙ size-below k s h none
 
 -- numbers of either and numbers of both
-pub size-both : (s t : ℕ) → ones (bitOr s t) + ones (bitAnd s t) ≡ ones s + ones t
+size-both : (s t : ℕ) → ones (bitOr s t) + ones (bitAnd s t) ≡ ones s + ones t
 size-both = bin-ind (λ (n : ℕ). (t : ℕ) → ones (bitOr n t) + ones (bitAnd n t) ≡ ones n + ones t) (λ t. omega arith) step
   where
     step : (n : ℕ) → ((t : ℕ) → ones (bitOr (n / 2) t) + ones (bitAnd (n / 2) t) ≡ ones (n / 2) + ones t)
@@ -87,6 +87,11 @@ size-apart s t h g apart =
     never : (a b : Bool) → (a ≡ true → b ≡ false) → (a && b) ≡ false
     never true b f = f refl
     never false b f = refl
+
+-- a number put in makes one more
+pub size-more : (s p : ℕ) → s < 2 ^ 64 → p < 64 → hasBit s p ≡ false → ones (bitOr s (2 ^ p)) ≡ ones s + 1
+size-more s p h l n =
+    size-apart s (2 ^ p) h (alone-word p l) (λ q u. alone-other p q (λ v. true≢false (sym u ∙ ap (hasBit s) v ∙ n))) ∙ ap (λ (k : ℕ). ones s + k) (size-alone p)
 
 put-back : (a b : Bool) → (b ≡ true → a ≡ true) → (a && not b || b) ≡ a
 put-back true true f = refl

@@ -20,14 +20,15 @@ use Rattle.model.specs.Labels.{label}
 use Rattle.model.proofs.BoolLaws.{same-test, not-true-false, or-left, or-right, or-cases}
 use Rattle.rules.specs.Collapse.{freeParts, loopIn}
 use Rattle.bits.specs.Sets.{hasBit, setMinus, Lowest}
-use Rattle.bits.proofs.BitLaws.{bit-none, bit-or, bit-all, in-minus, minus-in, minus-not-in, bit-below, word-of-bits}
-use Rattle.bits.proofs.SizeLaws.{size-count, size-apart, size-fewer}
+use Rattle.bits.proofs.BitLaws.{bit-none, bit-or, bit-all, minus-in, minus-not-in, minus-none, bit-below, word-of-bits}
+use Rattle.bits.proofs.SizeLaws.{none-set, size-count, size-fewer}
 use Rattle.bits.proofs.FullLaws.{all-full}
 use Rattle.reach.specs.Ways.{Reach}
 use Rattle.reach.specs.Ways.Reach.{here as there}
-use Rattle.reach.specs.Growing.{Untouched, GrownOnce}
+use Rattle.reach.specs.Once.{Untouched, GrownOnce}
 use Rattle.reach.specs.declared.growing.GrownFrom.{GrownFrom}
 use Rattle.reach.specs.declared.Growth.{Growth}
+use Rattle.reach.proofs.GrowLaws.{size-grown}
 use Rattle.parts.specs.Ways.{EndsAmong, goesOn, WaysOn, Looped, EachOnce}
 use Rattle.parts.proofs.FreeParts.{part-alike, part-loop, part-inside, part-whole}
 
@@ -54,39 +55,34 @@ all-word t few = lt-of-lt-of-le (ones-lt (t .points)) (pow-mono few)
 -- what holds while parts are grown
 pub record Looping (t : Track) (p : Position) (ways : List ℕ) (looped rest : ℕ) (after : GrownFrom) : Type 0 where
   pub looped-word : looped < 2 ^ 64
-  pub points-word : after .points < 2 ^ 64
-  pub rest-is : rest ≡ setMinus (all t) (after .points)
-  pub grown-in : (q : ℕ) → hasBit (after .points) q ≡ true → q < t .points
-  pub whole : (a b : ℕ) → Reach ways a b → hasBit (after .points) b ≡ true → hasBit (after .points) a ≡ true
-  pub count : after .steps ≡ ones (after .points)
-  pub exact : (q : ℕ) → q < t .points → hasBit looped q ≡ (loopAt t p q && hasBit (after .points) q)
+  pub set-word : after .set < 2 ^ 64
+  pub rest-is : rest ≡ setMinus (all t) (after .set)
+  pub grown-in : (q : ℕ) → hasBit (after .set) q ≡ true → q < t .points
+  pub whole : (a b : ℕ) → Reach ways a b → hasBit (after .set) b ≡ true → hasBit (after .set) a ≡ true
+  pub count : after .steps ≡ ones (after .set)
+  pub exact : (q : ℕ) → q < t .points → hasBit looped q ≡ (loopAt t p q && hasBit (after .set) q)
 
 module _ {t : Track} {p : Position} {ways : List ℕ} where
   -- nothing is grown from yet
-  pub looping-none : {after : GrownFrom} → after .points ≡ 0 → after .steps ≡ 0 → Looping t p ways 0 (setMinus (all t) (after .points)) after
-  looping-none {after} points steps = record {
+  pub looping-none : {after : GrownFrom} → after .set ≡ 0 → after .steps ≡ 0 → Looping t p ways 0 (setMinus (all t) (after .set)) after
+  looping-none {after} set steps = record {
     looped-word = pow-pos 64;
-    points-word = subst (λ (x : ℕ). x < 2 ^ 64) (sym points) (pow-pos 64);
+    set-word = subst (λ (x : ℕ). x < 2 ^ 64) (sym set) (pow-pos 64);
     rest-is = refl;
     grown-in = λ q e. absurd (true≢false (sym e ∙ none q));
     whole = λ a b k e. absurd (true≢false (sym e ∙ none b));
-    count = steps ∙ sym (ap ones points ∙ size-count 0 0 (pow-pos 0));
+    count = steps ∙ sym (ap ones set ∙ none-set);
     exact = λ q h. bit-none q ∙ sym (ap (λ (b : Bool). loopAt t p q && b) (none q) ∙ and-false (loopAt t p q));
   }
     where
-      none : (q : ℕ) → hasBit (after .points) q ≡ false
-      none q = ap (λ (x : ℕ). hasBit x q) points ∙ bit-none q
+      none : (q : ℕ) → hasBit (after .set) q ≡ false
+      none q = ap (λ (x : ℕ). hasBit x q) set ∙ bit-none q
 
   module _ (few : t .points ≤ 64) {looped rest : ℕ} {after : GrownFrom} (g : Looping t p ways looped rest after) where
     -- every point is grown from
     module _ (done : rest ≡ 0) where
-      each : (q : ℕ) → q < t .points → hasBit (after .points) q ≡ true
-      each q h = go (hasBit (after .points) q) refl
-        where
-          go : (b : Bool) → hasBit (after .points) q ≡ b → hasBit (after .points) q ≡ true
-          go true e = e
-          go false e =
-              absurd (true≢false (sym (in-minus (all t) (after .points) q (all-word t few) (g .points-word) (bit-all (t .points) q h) e) ∙ ap (λ (x : ℕ). hasBit x q) (sym (g .rest-is) ∙ done) ∙ bit-none q))
+      each : (q : ℕ) → q < t .points → hasBit (after .set) q ≡ true
+      each q h = minus-none (all t) (after .set) q (all-word t few) (g .set-word) (sym (g .rest-is) ∙ done) (bit-all (t .points) q h)
 
       pub looping-all : Looped t p looped
       looping-all = record {
@@ -94,52 +90,50 @@ module _ {t : Track} {p : Position} {ways : List ℕ} where
         exact = λ q h. g .exact q h ∙ ap (λ (b : Bool). loopAt t p q && b) (each q h) ∙ and-true (loopAt t p q);
       }
 
-      small : after .points < 2 ^ t .points
+      small : after .set < 2 ^ t .points
       small =
-          word-of-bits 64 (t .points) (after .points) (g .points-word)
-          (λ q l. not-true-false (hasBit (after .points) q) (λ e. let i : q < t .points = g .grown-in q e in absurd (omega arith)))
+          word-of-bits 64 (t .points) (after .set) (g .set-word)
+          (λ q l. not-true-false (hasBit (after .set) q) (λ e. let i : q < t .points = g .grown-in q e in absurd (omega arith)))
 
       pub looping-once : EachOnce (t .points) after
       looping-once = record {
-        exactly = λ q. same-test (hasBit (after .points) q) (ltb q (t .points)) (λ e. lt-ltb q (t .points) (g .grown-in q e)) (λ e. each q (ltb-true q (t .points) e));
-        steps = g .count ∙ all-full (t .points) (after .points) small each;
+        exactly = λ q. same-test (hasBit (after .set) q) (ltb q (t .points)) (λ e. lt-ltb q (t .points) (g .grown-in q e)) (λ e. each q (ltb-true q (t .points) e));
+        steps = g .count ∙ all-full (t .points) (after .set) small each;
       }
 
     -- the part of q, the lowest point not grown from
     module _ {q : ℕ} (low : Lowest rest q) where
-      left : hasBit (setMinus (all t) (after .points)) q ≡ true
+      left : hasBit (setMinus (all t) (after .set)) q ≡ true
       left = ap (λ (x : ℕ). hasBit x q) (sym (g .rest-is)) ∙ low .there
 
       q-in : q < t .points
-      q-in = bit-below (t .points) (all t) q (ones-lt (t .points)) (minus-in (all t) (after .points) q (all-word t few) (g .points-word) left)
+      q-in = bit-below (t .points) (all t) q (ones-lt (t .points)) (minus-in (all t) (after .set) q (all-word t few) (g .set-word) left)
 
       -- nothing that is reached from it is grown from: then it would be itself
       pub looping-untouched : Untouched ways q after
       looping-untouched r k =
-          not-true-false (hasBit (after .points) r)
-          (λ e. true≢false (sym (g .whole q r k e) ∙ minus-not-in (all t) (after .points) q (all-word t few) (g .points-word) left))
+          not-true-false (hasBit (after .set) r)
+          (λ e. true≢false (sym (g .whole q r k e) ∙ minus-not-in (all t) (after .set) q (all-word t few) (g .set-word) left))
 
       module _ {part : Growth} (grown : GrownOnce ways q after part) where
-        apart : ones (bitOr (after .points) (part .found)) ≡ ones (after .points) + ones (part .found)
-        apart =
-            size-apart (after .points) (part .found) (g .points-word) (grown .all .word)
-            (λ r e. not-true-false (hasBit (part .found) r) (λ f. true≢false (sym e ∙ looping-untouched r (grown .all .sound r f))))
+        joined-size : ones (bitOr (after .set) (part .found)) ≡ ones (after .set) + ones (part .found)
+        joined-size = size-grown after looping-untouched (grown .all) (g .set-word)
 
-        next-word : part .after .points < 2 ^ 64
-        next-word = subst (λ (x : ℕ). x < 2 ^ 64) (sym (grown .points)) (or-lt 64 (after .points) (part .found) (g .points-word) (grown .all .word))
+        next-word : part .after .set < 2 ^ 64
+        next-word = subst (λ (x : ℕ). x < 2 ^ 64) (sym (grown .set)) (or-lt 64 (after .set) (part .found) (g .set-word) (grown .all .word))
 
-        next-bit : (r : ℕ) → hasBit (part .after .points) r ≡ (hasBit (after .points) r || hasBit (part .found) r)
-        next-bit r = ap (λ (x : ℕ). hasBit x r) (grown .points) ∙ bit-or (after .points) (part .found) r
+        next-bit : (r : ℕ) → hasBit (part .after .set) r ≡ (hasBit (after .set) r || hasBit (part .found) r)
+        next-bit r = ap (λ (x : ℕ). hasBit x r) (grown .set) ∙ bit-or (after .set) (part .found) r
 
         -- more points are grown from
-        pub looping-fewer : 64 - ones (part .after .points) < 64 - ones (after .points)
+        pub looping-fewer : 64 - ones (part .after .set) < 64 - ones (after .set)
         looping-fewer =
             omega (
               arith,
-              ap ones (grown .points),
-              apart,
+              ap ones (grown .set),
+              joined-size,
               size-fewer (part .found) q (grown .all .word) (grown .all .whole q there),
-              ones-le 64 (part .after .points) next-word,
+              ones-le 64 (part .after .set) next-word,
             )
 
         module _ (among : EndsAmong (t .points) (t .zones) (t .ends) p) (o : WaysOn (t .ends) (goesOn (t .ends) p false 0) (2 * t .zones) ways) where
@@ -149,29 +143,29 @@ module _ {t : Track} {p : Position} {ways : List ℕ} where
 
           -- the part is grown from, and marked where it holds a loop
           looping-turn : (marked : ℕ) (b : Bool) → marked < 2 ^ 64 → ((r : ℕ) → hasBit marked r ≡ (hasBit looped r || (b && hasBit (part .found) r)))
-              → leb (howMany (hasBit (part .found)) (numbersBelow 64)) starting ≡ b → Looping t p ways marked (setMinus (all t) (part .after .points)) (part .after)
+              → leb (howMany (hasBit (part .found)) (numbersBelow 64)) starting ≡ b → Looping t p ways marked (setMinus (all t) (part .after .set)) (part .after)
           looping-turn marked b word bits test = record {
             looped-word = word;
-            points-word = next-word;
+            set-word = next-word;
             rest-is = refl;
             grown-in = λ r e. ⊎-elim (g .grown-in r) (part-inside t among o q-in (grown .all) r) (in-next r e);
             whole = λ a r k e.
                 next-bit a
-                ∙ ⊎-elim (λ l. or-left (hasBit (after .points) a) (hasBit (part .found) a) (g .whole a r k l))
-                (λ l. or-right (hasBit (after .points) a) (hasBit (part .found) a) (part-whole t among o (grown .all) a r k l)) (in-next r e);
-            count = omega (arith, grown .steps, g .count, ap ones (grown .points), apart, size-count 64 (part .found) (grown .all .word));
+                ∙ ⊎-elim (λ l. or-left (hasBit (after .set) a) (hasBit (part .found) a) (g .whole a r k l))
+                (λ l. or-right (hasBit (after .set) a) (hasBit (part .found) a) (part-whole t among o (grown .all) a r k l)) (in-next r e);
+            count = omega (arith, grown .steps, g .count, ap ones (grown .set), joined-size, size-count 64 (part .found) (grown .all .word));
             exact = λ r h.
                 bits r ∙ ap (λ (x : Bool). x || (b && hasBit (part .found) r)) (g .exact r h)
-                ∙ merged (loopAt t p r) (hasBit (after .points) r) b (hasBit (part .found) r)
+                ∙ merged (loopAt t p r) (hasBit (after .set) r) b (hasBit (part .found) r)
                 (λ e. part-alike t among o q-in (grown .all) r h e ∙ sym (part-loop t among o q-in (grown .all)) ∙ test)
                 ∙ ap (λ (x : Bool). loopAt t p r && x) (sym (next-bit r));
           }
             where
-              in-next : (r : ℕ) → hasBit (part .after .points) r ≡ true → (hasBit (after .points) r ≡ true) ⊎ (hasBit (part .found) r ≡ true)
-              in-next r e = or-cases (hasBit (after .points) r) (hasBit (part .found) r) (sym (next-bit r) ∙ e)
+              in-next : (r : ℕ) → hasBit (part .after .set) r ≡ true → (hasBit (after .set) r ≡ true) ⊎ (hasBit (part .found) r ≡ true)
+              in-next r e = or-cases (hasBit (after .set) r) (hasBit (part .found) r) (sym (next-bit r) ∙ e)
 
-          pub looping-marks : howMany (hasBit (part .found)) (numbersBelow 64) ≤ starting → Looping t p ways (bitOr looped (part .found)) (setMinus (all t) (part .after .points)) (part .after)
+          pub looping-marks : howMany (hasBit (part .found)) (numbersBelow 64) ≤ starting → Looping t p ways (bitOr looped (part .found)) (setMinus (all t) (part .after .set)) (part .after)
           looping-marks h = looping-turn (bitOr looped (part .found)) true (or-lt 64 looped (part .found) (g .looped-word) (grown .all .word)) (bit-or looped (part .found)) (le-leb _ _ h)
 
-          pub looping-passes : starting < howMany (hasBit (part .found)) (numbersBelow 64) → Looping t p ways looped (setMinus (all t) (part .after .points)) (part .after)
+          pub looping-passes : starting < howMany (hasBit (part .found)) (numbersBelow 64) → Looping t p ways looped (setMinus (all t) (part .after .set)) (part .after)
           looping-passes h = looping-turn looped false (g .looped-word) (λ r. sym (or-false (hasBit looped r))) (lt-leb _ _ h)

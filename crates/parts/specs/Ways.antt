@@ -54,8 +54,8 @@ pub record Looped (t : Track) (p : Position) (s : ℕ) : Type 0 where
   pub word : s < 2 ^ 64
   pub exact : (q : ℕ) → q < t .points → let ls = freeParts t p in hasBit s q ≡ loopIn t p ls (label ls q)
 
--- each of so many points was grown from exactly once: no step takes a point that is in the set already, so it is at most once; the set is
--- exactly the points, so it is at least once; and there were as many steps
-pub record EachOnce (points : ℕ) (after : GrownFrom) : Type 0 where
-  pub exactly : (q : ℕ) → hasBit (after .points) q ≡ ltb q points
-  pub steps : after .steps ≡ points
+-- each of so many points was grown from exactly once, by the steps that made this of nothing: no step takes a point that is in its set, so it
+-- is at most once; the set is exactly the points, so it is at least once; and there were as many steps
+pub record EachOnce (points : ℕ) (grown : GrownFrom) : Type 0 where
+  pub exactly : (q : ℕ) → hasBit (grown .set) q ≡ ltb q points
+  pub steps : grown .steps ≡ points

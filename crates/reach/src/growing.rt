@@ -1,6 +1,6 @@
-// One growing step, and what is carried from step to step through all the growings of a board: the points grown from, and the count of steps.
-// Its fields are private to this file, so that no growing and none of its callers makes up a point or a step. A growing reads the ways by the
-// step alone.
+// One growing step, and what is carried from step to step through all the free parts of a board: the points grown from, and the count of
+// steps. The fields of `GrownFrom` are private to this file, so that no growing and none of its callers makes up a point or a step. A
+// growing reads the ways by the step alone.
 ghost use mathlib.Core.Path.{_≡_};
 ghost use mathlib.Core.Bool.{false};
 ghost use Prim.Native.Nat.{_+_, _^_, _<_};
@@ -8,9 +8,9 @@ ghost use lib.ListN.{length, getD};
 ghost use lib.Bits.{bitOr};
 ghost use Rattle.bits.specs.Sets.{hasBit, setMinus};
 
-// The points grown from so far, and how many steps that took.
+// The set of the points grown from so far, and how many steps that took.
 pub struct GrownFrom {
-    points: u64,
+    set: u64,
     steps: usize,
 }
 
@@ -22,31 +22,28 @@ pub struct Stepped {
 
 // Nothing is grown from yet.
 pub fn nothing() -> GrownFrom
-    ensures { λ r. ⌜ (r .points ≡ 0) × (r .steps ≡ 0) ⌝ }
+    ensures { λ r. ⌜ (r .set ≡ 0) × (r .steps ≡ 0) ⌝ }
 {
-    GrownFrom {
-        points: 0,
-        steps: 0,
-    }
+    GrownFrom { set: 0, steps: 0 }
 }
 
 // The step from point p, which is not grown from yet.
 pub fn step(ways: &[u64], p: usize, before: GrownFrom) -> Stepped
-    requires { ⌜ (p < length (now ways)) × (p < 64) × (hasBit (before .points) p ≡ false) × (before .steps + 1 < 2 ^ 64) ⌝ }
-    ensures { λ r. ⌜ (r .leads ≡ getD (now (ways .entry)) p 0) × (r .after .points ≡ bitOr (before .points) (2 ^ p)) × (r .after .steps ≡ before .steps + 1) ⌝ }
+    requires { ⌜ (p < length (now ways)) × (p < 64) × (hasBit (before .set) p ≡ false) × (before .steps + 1 < 2 ^ 64) ⌝ }
+    ensures { λ r. ⌜ (r .leads ≡ getD (now (ways .entry)) p 0) × (r .after .set ≡ bitOr (before .set) (2 ^ p)) × (r .after .steps ≡ before .steps + 1) ⌝ }
 {
     Stepped {
         leads: ways[p],
         after: GrownFrom {
-            points: bits::with(before.points, p),
+            set: bits::with(before.set, p),
             steps: before.steps + 1,
         },
     }
 }
 
 // The points of a set that are not grown from yet.
-pub fn fresh(points: u64, before: GrownFrom) -> u64
-    ensures { λ r. ⌜ r ≡ setMinus points (before .points) ⌝ }
+pub fn fresh(points: u64, grown: GrownFrom) -> u64
+    ensures { λ r. ⌜ r ≡ setMinus points (grown .set) ⌝ }
 {
-    bits::minus(points, before.points)
+    bits::minus(points, grown.set)
 }

@@ -7,7 +7,7 @@ ghost use Prim.Native.Nat.{_+_, _^_, _<_};
 ghost use lib.ListN.{length, getD, set};
 ghost use lib.Bits.{bitOr};
 ghost use Rattle.reach.specs.Ways.{Ways, Grown};
-ghost use Rattle.reach.specs.Growing.{Untouched, GrownOnce};
+ghost use Rattle.reach.specs.Once.{Untouched, GrownOnce};
 
 // One way more, from p to q.
 pub fn add_way(ways: &mut [u64], p: usize, q: usize)
@@ -23,8 +23,8 @@ pub struct Growth {
     pub after: GrownFrom,
 }
 
-// All points reached from one, none of which is grown from yet. A point last added, that is found and not yet grown from, brings those that
-// its ways lead to; the lowest such goes first.
+// All points reached from one, none of which is grown from yet. Each turn takes the lowest of the points last added, which are those found
+// and not yet grown from, and adds where its ways lead.
 pub fn grow_once(ways: &[u64], from: usize, before: GrownFrom) -> Growth
     requires { ⌜ (from < length (now ways)) × Ways (now ways) × Untouched (now ways) from before × (before .steps + 64 < 2 ^ 64) ⌝ }
     ensures { λ r. ⌜ GrownOnce (now (ways .entry)) from before r ⌝ }

@@ -22,7 +22,7 @@ Inv-loop ends position ways counts all looped₀ after₀ rest₀ looped after r
     (head : Head) → EndsAmong (head .points) (head .zones) ends position → all ≡ 2 ^ head .points - 1 → Looping (trackOf head ends) position ways looped rest after
 
 abbrev μ-loop : tie.MeasureT-loop
-μ-loop ends position ways counts all looped₀ after₀ rest₀ looped after rest = 64 - ones (after .points)
+μ-loop ends position ways counts all looped₀ after₀ rest₀ looped after rest = 64 - ones (after .set)
 
 slice-aggregate-add-ways : tie.Need-slice-aggregate-add-ways Inv-loop μ-loop
 slice-aggregate-add-ways c = search needs
@@ -37,7 +37,7 @@ count-starts-requires : tie.Need-count-starts-requires Inv-loop μ-loop
 count-starts-requires c κs = (among-most (c .before .before .before .before .before .before .pre), refl)
 
 all-requires : tie.Need-all-requires Inv-loop μ-loop
-all-requires c κs = let a = c .before .before .before .before .before .before .before .before in (a .pre .positive, a .pre .few)
+all-requires c κs = let a = c .before .before .before .before .before .before .before .before in (omega (arith, a .pre .positive), omega (arith, a .pre .few))
 
 nothing-requires : tie.Need-nothing-requires Inv-loop μ-loop
 nothing-requires c κs = tt
@@ -66,7 +66,7 @@ grow-once-requires c κs =
       omega (arith, c .before .lowest .ensures .inside, made .add-ways .ensures .long),
       over-ways (a .pre) (over-all (a .pre) (made .add-ways .ensures)),
       looping-untouched (a .pre .few) inv (c .before .lowest .ensures),
-      omega (arith, inv .count, ones-le 64 (looping .loop .after .points) (inv .points-word)),
+      omega (arith, inv .count, ones-le 64 (looping .loop .after .set) (inv .set-word)),
     )
 
 size-requires : tie.Need-size-requires Inv-loop μ-loop

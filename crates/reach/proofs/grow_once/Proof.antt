@@ -13,7 +13,7 @@ abbrev Inv-loop : tie.InvT-loop
 Inv-loop ways from found₀ after₀ fresh₀ found after fresh = Growing ways from after₀ after found fresh
 
 abbrev μ-loop : tie.MeasureT-loop
-μ-loop ways from found₀ after₀ fresh₀ found after fresh = 64 - ones (after .points)
+μ-loop ways from found₀ after₀ fresh₀ found after fresh = 64 - ones (after .set)
 
 with-requires : tie.Need-with-requires Inv-loop μ-loop
 with-requires c κs = search needs
@@ -35,12 +35,7 @@ step-requires c κs =
     let a = looping .before .before .before .before in
     let g = looping .loop .inv in
     let low = c .lowest .ensures in
-    let fits = looping .before .before .before .shared-slice-known .given (c .lowest .result) .fits in (
-      reach-inside (a .pre .1) (a .pre .0) (g .sound _ (step-found (a .pre .2) g low fits)),
-      low .inside,
-      step-new (a .pre .2) g low fits,
-      step-room (a .pre .2) g low fits (a .pre .3),
-    )
+    (reach-inside (a .pre .1) (a .pre .0) (g .sound _ (step-found g low)), low .inside, step-new g low, step-room g low (a .pre .3))
 
 fresh-requires-2 : tie.Need-fresh-requires-2 Inv-loop μ-loop
 fresh-requires-2 c κs = tt
@@ -48,26 +43,21 @@ fresh-requires-2 c κs = tt
 loop-less : tie.Need-loop-less Inv-loop μ-loop
 loop-less c =
     let stepped = c .before .before .before in
-    let looping = stepped .before .before .before in
-    let a = looping .before .before .before .before in
-    let p = stepped .before .lowest .result in
-    let step = stepped .step .ensures in
-    fewer (a .pre .2) (looping .loop .inv) (stepped .before .lowest .ensures) (looping .before .before .before .shared-slice-known .given p .fits) (step .1) (step .2)
+    fewer (stepped .before .before .before .loop .inv) (stepped .before .lowest .ensures) (stepped .step .result .after) (stepped .step .ensures .1)
 
 loop-again : tie.Need-loop-again Inv-loop μ-loop
 loop-again c =
     let stepped = c .before .before .before in
     let looping = stepped .before .before .before in
     let a = looping .before .before .before .before in
-    let p = stepped .before .lowest .result in
+    let fits = looping .before .before .before .shared-slice-known .given (stepped .before .lowest .result) .fits in
     let step = stepped .step .ensures in
-    rw (c .fresh2 .ensures, step .0)
-    (turns (a .pre .2) (looping .loop .inv) (stepped .before .lowest .ensures) (looping .before .before .before .shared-slice-known .given p .fits) (step .1) (step .2))
+    rw (c .fresh2 .ensures, step .0) (turns (looping .loop .inv) (stepped .before .lowest .ensures) (stepped .step .result .after) (step .1) (a .pre .2) fits (step .2))
 
 returns : tie.Need-returns Inv-loop μ-loop
 returns c =
     let a = c .before .before .before .before .before in
-    ends (a .pre .2) (c .before .loop .inv) (c .loop-test .left) (omega (arith, a .good))
+    ends (c .before .loop .inv) (c .loop-test .left) (a .pre .2) (omega (arith, a .good))
 
 pub grow-once-spec : {M : Type 1} → statement M
 grow-once-spec =

@@ -1,4 +1,4 @@
--- What a growing asks and gives, of the points grown from and the count of steps that are carried through all the growings of a board.
+-- What a growing asks and gives, of the points grown from and the count of steps that are carried through all the free parts of a board.
 use Prim.Native.Nat.{ℕ, _+_}
 use mathlib.Core.List.{List}
 use mathlib.Core.Path.{_≡_}
@@ -12,10 +12,10 @@ use Rattle.reach.specs.declared.Growth.{Growth}
 
 -- nothing that is reached from p is grown from yet
 abbrev pub Untouched : List ℕ → ℕ → GrownFrom → Type 0
-Untouched ways p before = (q : ℕ) → Reach ways p q → hasBit (before .points) q ≡ false
+Untouched ways p before = (q : ℕ) → Reach ways p q → hasBit (before .set) q ≡ false
 
 -- all that is reached from p is found, and each point of it was grown from by one step more
 pub record GrownOnce (ways : List ℕ) (p : ℕ) (before : GrownFrom) (r : Growth) : Type 0 where
   pub all : Grown ways p (r .found)
-  pub points : r .after .points ≡ bitOr (before .points) (r .found)
+  pub set : r .after .set ≡ bitOr (before .set) (r .found)
   pub steps : r .after .steps ≡ before .steps + howMany (hasBit (r .found)) (numbersBelow 64)

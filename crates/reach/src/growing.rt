@@ -32,11 +32,14 @@ pub fn step(ways: &[u64], p: usize, before: GrownFrom) -> Stepped
     requires { ⌜ (p < length (now ways)) × (p < 64) × (hasBit (before .set) p ≡ false) × (before .steps + 1 < 2 ^ 64) ⌝ }
     ensures { λ r. ⌜ (r .leads ≡ getD (now (ways .entry)) p 0) × (r .after .set ≡ bitOr (before .set) (2 ^ p)) × (r .after .steps ≡ before .steps + 1) ⌝ }
 {
+    let leads = ways[p];
+    let set = bits::with(before.set, p);
+    let steps = before.steps + 1;
     Stepped {
-        leads: ways[p],
+        leads: leads,
         after: GrownFrom {
-            set: bits::with(before.set, p),
-            steps: before.steps + 1,
+            set: set,
+            steps: steps,
         },
     }
 }

@@ -54,7 +54,7 @@ pub record Looped (t : Track) (p : Position) (s : ℕ) : Type 0 where
   pub word : s < 2 ^ 64
   pub exact : (q : ℕ) → q < t .points → let ls = freeParts t p in hasBit s q ≡ loopIn t p ls (label ls q)
 
--- each of so many points was grown from exactly once, by the steps that made this of nothing: no step takes a point that is in its set, so it
+-- each of so many points was grown from exactly once by the steps that made this of nothing: no step takes a point that is in its set, so it
 -- is at most once; the set is exactly the points, so it is at least once; and there were as many steps
 pub record EachOnce (points : ℕ) (grown : GrownFrom) : Type 0 where
   pub exactly : (q : ℕ) → hasBit (grown .set) q ≡ ltb q points

@@ -115,12 +115,13 @@ fn row(name: &str, what: &str, ours: &[f64], others: &[(&str, &[f64])]) {
 }
 
 /// The collapse of a chain: how its time grows with the points.
-fn chains(name: &str, board: Board) {
+fn chain(name: &str, board: Board) {
     let name = format!("{name} {}", board.points);
     let bytes = vec![board.bytes(); 200];
     let (mut list, mut list2) = (vec![0u16; 96], vec![0u16; 96]);
     let ours = nizkabel::collapse(&bytes[0], &mut list);
-    assert_eq!((ours.number, ours.listed), port::collapse(&bytes[0], &mut list2));
+    assert_eq!(ours.number, 0);
+    assert_eq!((0, ours.listed), port::collapse(&bytes[0], &mut list2));
     assert_eq!(list, list2);
     collapses(&name, &bytes, 100);
     #[cfg(before)]
@@ -148,10 +149,10 @@ fn main() {
     group("large 2", &renumbered(&large, |c| c + 256), 100);
     group("full 2", &renumbered(&full, |c| c + 256), 100);
     group("alike 2", &renumbered(&full, |c| c * 256), 100);
-    // Chains, whose free parts are one of all points, one of each point, and one of every two.
+    // Chains with one free part, one for each point, and one for every two points.
     for points in [8, 16, 32, 64] {
-        chains("free", boards::chain(points, |_| false));
-        chains("held", boards::chain(points, |_| true));
-        chains("pairs", boards::chain(points, |z| z % 2 == 1));
+        chain("free", boards::chain(points, |_| false));
+        chain("held", boards::chain(points, |_| true));
+        chain("pairs", boards::chain(points, |z| z % 2 == 1));
     }
 }

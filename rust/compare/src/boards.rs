@@ -78,7 +78,7 @@ pub fn worst() -> Board {
     Board { points: exit + around, home: 0, zones }
 }
 
-/// A chain of points from home on with a turning loop at its far end, in which the zones that are held have carriers that head for home.
+/// A chain of points from home on with a turning loop at its far end, in which these zones are held, by carriers with heading 1: toward home.
 pub fn chain(points: usize, held: impl Fn(usize) -> bool) -> Board {
     let zone = |z| {
         let carrier = if held(z) { 1 + z as u32 } else { 0 };

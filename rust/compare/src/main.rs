@@ -305,12 +305,10 @@ fn main() {
         compare_key(&mut tally, &bytes, 8, 8);
     }
     compare_board(&mut tally, &mut random, &boards::worst());
-    // Chains of every length, whose free parts are one of all points, one of each point, and one of every two.
+    // Chains of every length with one free part, one for each point, and one for every two points.
     for points in 2..=64 {
         for held in [|_| false, |_| true, |z| z % 2 == 1] {
-            let board = boards::chain(points, held);
-            compare_board(&mut tally, &mut random, &board);
-            let board = boards::headed(&mut random, board);
+            let board = boards::headed(&mut random, boards::chain(points, held));
             compare_board(&mut tally, &mut random, &board);
         }
     }

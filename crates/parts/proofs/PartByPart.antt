@@ -1,6 +1,6 @@
 -- The free parts taken one by one: what holds at first, after each part and at the end.
 -- What is grown from is made of whole parts, so nothing that is reached from another point is in it; of its points, those of parts with a
--- loop are marked; and there were as many steps as points. Each part has a point that was not grown from.
+-- loop are marked; and there were as many steps as points. Each part brings a point that was not grown from, so each turn leaves fewer.
 use Prim.Native.Nat.{ℕ, _+_, _-_, _*_, _^_, _≤_, _<_}
 use mathlib.Core.Path.{_≡_, refl, sym, ap, _∙_, subst}
 use mathlib.Core.List.{List}
@@ -46,17 +46,17 @@ abbrev loopAt : Track → Position → ℕ → Bool
 loopAt t p q = let ls = freeParts t p in loopIn t p ls (label ls q)
 
 -- the points of a track
-abbrev all : Track → ℕ
-all t = 2 ^ t .points - 1
+abbrev allPoints : Track → ℕ
+allPoints t = 2 ^ t .points - 1
 
-all-word : (t : Track) → t .points ≤ 64 → all t < 2 ^ 64
+all-word : (t : Track) → t .points ≤ 64 → allPoints t < 2 ^ 64
 all-word t few = lt-of-lt-of-le (ones-lt (t .points)) (pow-mono few)
 
 -- what holds while parts are grown
 pub record Looping (t : Track) (p : Position) (ways : List ℕ) (looped rest : ℕ) (after : GrownFrom) : Type 0 where
   pub looped-word : looped < 2 ^ 64
   pub set-word : after .set < 2 ^ 64
-  pub rest-is : rest ≡ setMinus (all t) (after .set)
+  pub rest-is : rest ≡ setMinus (allPoints t) (after .set)
   pub grown-in : (q : ℕ) → hasBit (after .set) q ≡ true → q < t .points
   pub whole : (a b : ℕ) → Reach ways a b → hasBit (after .set) b ≡ true → hasBit (after .set) a ≡ true
   pub count : after .steps ≡ ones (after .set)
@@ -64,7 +64,7 @@ pub record Looping (t : Track) (p : Position) (ways : List ℕ) (looped rest : �
 
 module _ {t : Track} {p : Position} {ways : List ℕ} where
   -- nothing is grown from yet
-  pub looping-none : {after : GrownFrom} → after .set ≡ 0 → after .steps ≡ 0 → Looping t p ways 0 (setMinus (all t) (after .set)) after
+  pub looping-none : {after : GrownFrom} → after .set ≡ 0 → after .steps ≡ 0 → Looping t p ways 0 (setMinus (allPoints t) (after .set)) after
   looping-none {after} set steps = record {
     looped-word = pow-pos 64;
     set-word = subst (λ (x : ℕ). x < 2 ^ 64) (sym set) (pow-pos 64);
@@ -82,7 +82,7 @@ module _ {t : Track} {p : Position} {ways : List ℕ} where
     -- every point is grown from
     module _ (done : rest ≡ 0) where
       each : (q : ℕ) → q < t .points → hasBit (after .set) q ≡ true
-      each q h = minus-none (all t) (after .set) q (all-word t few) (g .set-word) (sym (g .rest-is) ∙ done) (bit-all (t .points) q h)
+      each q h = minus-none (allPoints t) (after .set) q (all-word t few) (g .set-word) (sym (g .rest-is) ∙ done) (bit-all (t .points) q h)
 
       pub looping-all : Looped t p looped
       looping-all = record {
@@ -103,17 +103,17 @@ module _ {t : Track} {p : Position} {ways : List ℕ} where
 
     -- the part of q, the lowest point not grown from
     module _ {q : ℕ} (low : Lowest rest q) where
-      left : hasBit (setMinus (all t) (after .set)) q ≡ true
+      left : hasBit (setMinus (allPoints t) (after .set)) q ≡ true
       left = ap (λ (x : ℕ). hasBit x q) (sym (g .rest-is)) ∙ low .there
 
       q-in : q < t .points
-      q-in = bit-below (t .points) (all t) q (ones-lt (t .points)) (minus-in (all t) (after .set) q (all-word t few) (g .set-word) left)
+      q-in = bit-below (t .points) (allPoints t) q (ones-lt (t .points)) (minus-in (allPoints t) (after .set) q (all-word t few) (g .set-word) left)
 
-      -- nothing that is reached from it is grown from: then it would be itself
+      -- nothing that is reached from q is grown from: else q would be too
       pub looping-untouched : Untouched ways q after
       looping-untouched r k =
           not-true-false (hasBit (after .set) r)
-          (λ e. true≢false (sym (g .whole q r k e) ∙ minus-not-in (all t) (after .set) q (all-word t few) (g .set-word) left))
+          (λ e. true≢false (sym (g .whole q r k e) ∙ minus-not-in (allPoints t) (after .set) q (all-word t few) (g .set-word) left))
 
       module _ {part : Growth} (grown : GrownOnce ways q after part) where
         joined-size : ones (bitOr (after .set) (part .found)) ≡ ones (after .set) + ones (part .found)
@@ -143,7 +143,7 @@ module _ {t : Track} {p : Position} {ways : List ℕ} where
 
           -- the part is grown from, and marked where it holds a loop
           looping-turn : (marked : ℕ) (b : Bool) → marked < 2 ^ 64 → ((r : ℕ) → hasBit marked r ≡ (hasBit looped r || (b && hasBit (part .found) r)))
-              → leb (howMany (hasBit (part .found)) (numbersBelow 64)) starting ≡ b → Looping t p ways marked (setMinus (all t) (part .after .set)) (part .after)
+              → leb (howMany (hasBit (part .found)) (numbersBelow 64)) starting ≡ b → Looping t p ways marked (setMinus (allPoints t) (part .after .set)) (part .after)
           looping-turn marked b word bits test = record {
             looped-word = word;
             set-word = next-word;
@@ -164,8 +164,8 @@ module _ {t : Track} {p : Position} {ways : List ℕ} where
               in-next : (r : ℕ) → hasBit (part .after .set) r ≡ true → (hasBit (after .set) r ≡ true) ⊎ (hasBit (part .found) r ≡ true)
               in-next r e = or-cases (hasBit (after .set) r) (hasBit (part .found) r) (sym (next-bit r) ∙ e)
 
-          pub looping-marks : howMany (hasBit (part .found)) (numbersBelow 64) ≤ starting → Looping t p ways (bitOr looped (part .found)) (setMinus (all t) (part .after .set)) (part .after)
+          pub looping-marks : howMany (hasBit (part .found)) (numbersBelow 64) ≤ starting → Looping t p ways (bitOr looped (part .found)) (setMinus (allPoints t) (part .after .set)) (part .after)
           looping-marks h = looping-turn (bitOr looped (part .found)) true (or-lt 64 looped (part .found) (g .looped-word) (grown .all .word)) (bit-or looped (part .found)) (le-leb _ _ h)
 
-          pub looping-passes : starting < howMany (hasBit (part .found)) (numbersBelow 64) → Looping t p ways looped (setMinus (all t) (part .after .set)) (part .after)
+          pub looping-passes : starting < howMany (hasBit (part .found)) (numbersBelow 64) → Looping t p ways looped (setMinus (allPoints t) (part .after .set)) (part .after)
           looping-passes h = looping-turn looped false (g .looped-word) (λ r. sym (or-false (hasBit looped r))) (lt-leb _ _ h)

@@ -1,5 +1,5 @@
--- What the steps of the collapse on sets of points hand to each other: ways over words, counts of free zones, the points of the parts
--- with a loop, and the points that the parts were grown from.
+-- What the functions of the collapse on sets of points hand to each other: ways over words, counts of free zones, the points of the parts
+-- with a loop, and of the points that the parts were grown from how many steps that took.
 use Prim.Native.Nat.{ℕ, _+_, _*_, _^_, _≤_, _<_}
 use mathlib.Core.List.{List, [], _∷_}
 use mathlib.Core.Path.{_≡_}
@@ -54,8 +54,8 @@ pub record Looped (t : Track) (p : Position) (s : ℕ) : Type 0 where
   pub word : s < 2 ^ 64
   pub exact : (q : ℕ) → q < t .points → let ls = freeParts t p in hasBit s q ≡ loopIn t p ls (label ls q)
 
--- each of so many points was grown from exactly once by the steps that made this of nothing: no step takes a point that is in its set, so it
--- is at most once; the set is exactly the points, so it is at least once; and there were as many steps
+-- the set is exactly so many points, and there were as many steps. A step takes no point that is in the set it is given and puts its own in, so
+-- from nothing on each point was taken exactly once. That the set came by steps alone: docs/DECISIONS.md, 43
 pub record EachOnce (points : ℕ) (grown : GrownFrom) : Type 0 where
   pub exactly : (q : ℕ) → hasBit (grown .set) q ≡ ltb q points
   pub steps : grown .steps ≡ points

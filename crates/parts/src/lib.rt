@@ -75,14 +75,14 @@ fn zones_in(counts: &[usize], part: u64) -> usize
 }
 
 // What going through the free parts gives: the points of those that hold a loop, and what is grown from after all of them.
-struct Parts {
+struct PartsGrown {
     looped: u64,
     after: GrownFrom,
 }
 
 // The points of the free parts that hold a loop: at least as many free zones as points. The part of the lowest point not yet grown from is
 // grown over the ways of free zones, until each point of the board is grown from, once.
-fn looped_points(head: Head, ends: &[usize], position: &[u32]) -> Parts
+fn looped_points(head: Head, ends: &[usize], position: &[u32]) -> PartsGrown
     requires { ⌜ EndsAmong (head .points) (head .zones) (now ends) (now position) ⌝ }
     ensures { λ r. ⌜ Looped (trackOf head (now (ends .entry))) (now (position .entry)) (r .looped) × EachOnce (head .points) (r .after) ⌝ }
 {
@@ -92,20 +92,21 @@ fn looped_points(head: Head, ends: &[usize], position: &[u32]) -> Parts
     count_starts(head.zones, ends, position, &mut counts);
     let all = bits::all(head.points);
     let mut looped = 0;
-    let mut after = growing::nothing();
-    let mut rest = growing::fresh(all, after);
+    let mut grown = growing::nothing();
+    let mut rest = growing::fresh(all, grown);
     while rest != 0 {
         let first = bits::lowest(rest);
-        let part = reach::grow_once(&ways, first, after);
-        if bits::size(part.found) <= zones_in(&counts, part.found) {
-            looped = looped | part.found;
+        let growth = reach::grow_once(&ways, first, grown);
+        let part = growth.found;
+        if bits::size(part) <= zones_in(&counts, part) {
+            looped = looped | part;
         }
-        after = part.after;
-        rest = growing::fresh(all, after);
+        grown = growth.after;
+        rest = growing::fresh(all, grown);
     }
-    Parts {
+    PartsGrown {
         looped: looped,
-        after: after,
+        after: grown,
     }
 }
 
@@ -115,9 +116,9 @@ fn home_set(head: Head, ends: &[usize], position: &[u32]) -> u64
     requires { ⌜ Bounded (trackOf head (now ends)) (now position) ⌝ }
     ensures { λ r. ⌜ HomeWord (trackOf head (now (ends .entry))) (now (position .entry)) r ⌝ }
 {
-    let parts = looped_points(head, ends, position);
+    let grown = looped_points(head, ends, position);
     let mut ways = [0u64; 64];
-    add_ways(ends, position, true, parts.looped, &mut ways);
+    add_ways(ends, position, true, grown.looped, &mut ways);
     reach::grow(&ways, head.home)
 }
 

@@ -14,7 +14,7 @@ use Rattle.reach.specs.declared.Growth.{Growth}
 abbrev pub Untouched : List ℕ → ℕ → GrownFrom → Type 0
 Untouched ways p before = (q : ℕ) → Reach ways p q → hasBit (before .set) q ≡ false
 
--- all that is reached from p is found, and each point of it was grown from by one step more
+-- all that is reached from p is found and is now in the set, and the count is more by as many
 pub record GrownOnce (ways : List ℕ) (p : ℕ) (before : GrownFrom) (r : Growth) : Type 0 where
   pub all : Grown ways p (r .found)
   pub set : r .after .set ≡ bitOr (before .set) (r .found)

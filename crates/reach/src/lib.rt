@@ -30,22 +30,22 @@ pub fn grow_once(ways: &[u64], from: usize, before: GrownFrom) -> Growth
     ensures { λ r. ⌜ GrownOnce (now (ways .entry)) from before r ⌝ }
 {
     let mut found = bits::with(0, from);
-    let mut after = before;
-    let mut fresh = growing::fresh(found, after);
+    let mut grown = before;
+    let mut fresh = growing::fresh(found, grown);
     while fresh != 0 {
         let p = bits::lowest(fresh);
-        let stepped = growing::step(ways, p, after);
+        let stepped = growing::step(ways, p, grown);
         found = found | stepped.leads;
-        after = stepped.after;
-        fresh = growing::fresh(found, after);
+        grown = stepped.after;
+        fresh = growing::fresh(found, grown);
     }
     Growth {
         found: found,
-        after: after,
+        after: grown,
     }
 }
 
-// All points reached from one, where no other growing is counted with it.
+// All points reached from one: a growing by itself, whose count isn't asked for.
 pub fn grow(ways: &[u64], from: usize) -> u64
     requires { ⌜ (from < length (now ways)) × Ways (now ways) ⌝ }
     ensures { λ r. ⌜ Grown (now (ways .entry)) from r ⌝ }

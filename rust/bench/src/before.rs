@@ -35,11 +35,11 @@ fn mark(board: &[u8], sheet: &[u16]) -> u32 {
 
 type Pair<'a> = (&'a Vec<u8>, &'a Vec<u16>);
 
-/// Nine measurements by turns, in each of which a build goes over all boards so many times; the row has the median of their ratios.
-fn measured<T>(name: &str, what: &str, repeats: usize, boards: &[T], mut ours: impl FnMut(&T), mut before: impl FnMut(&T)) {
-    let [ours, before] = times(9, repeats * boards.len(), [
-        &mut || (0..repeats).for_each(|_| boards.iter().for_each(&mut ours)),
-        &mut || (0..repeats).for_each(|_| boards.iter().for_each(&mut before)),
+/// Nine measurements by turns, in each of which a build goes over all inputs so many times; the row has the median of their ratios.
+fn measured<T>(name: &str, what: &str, repeats: usize, inputs: &[T], mut ours: impl FnMut(&T), mut before: impl FnMut(&T)) {
+    let [ours, before] = times(9, repeats * inputs.len(), [
+        &mut || (0..repeats).for_each(|_| inputs.iter().for_each(&mut ours)),
+        &mut || (0..repeats).for_each(|_| inputs.iter().for_each(&mut before)),
     ]);
     row(name, what, &ours, &[("before", &before)]);
 }

@@ -50,11 +50,16 @@ fn agree(board: &[u8], sheet: &[u16]) {
         assert_eq!((key.verdict, key.planned, key.listed, key.searched), port_key);
         assert_eq!((&plan, &list), (&port_plan, &port_list));
     }
-    let ((_, mut left), (_, mut port_left)) = (rooms(), rooms());
-    let collapse = nizkabel::collapse(board, &mut left);
-    assert_eq!((collapse.number, collapse.listed), port::collapse(board, &mut port_left));
-    assert_eq!(left, port_left);
+    agree_on_collapse(board);
     assert_eq!((nizkabel::mark(board, sheet), port::mark(board, sheet)), (0, 0));
+}
+
+fn agree_on_collapse(board: &[u8]) {
+    let (mut left, mut port_left) = (vec![0u16; 96], vec![0u16; 96]);
+    let collapse = nizkabel::collapse(board, &mut left);
+    assert_eq!(collapse.number, 0);
+    assert_eq!((0, collapse.listed), port::collapse(board, &mut port_left));
+    assert_eq!(left, port_left);
 }
 
 fn group(name: &str, boards: &[Board], rounds: usize) {
@@ -95,6 +100,7 @@ fn group(name: &str, boards: &[Board], rounds: usize) {
     }
 }
 
+/// The row of the collapse.
 fn collapses(name: &str, bytes: &[Vec<u8>], rounds: usize) {
     let (mut list, mut list2) = (vec![0u16; 96], vec![0u16; 96]);
     let n = bytes.len();
@@ -114,15 +120,11 @@ fn row(name: &str, what: &str, ours: &[f64], others: &[(&str, &[f64])]) {
     println!("{name:<8} {what:<9} {:>10.0} ns   {}", median(ours.to_vec()), ratios.join("   "));
 }
 
-/// The collapse of a chain: how its time grows with the points.
+/// The row of the collapse of one chain, named by its kind and its points. A call takes under a microsecond or two, so 200 are timed at once.
 fn chain(name: &str, board: Board) {
     let name = format!("{name} {}", board.points);
     let bytes = vec![board.bytes(); 200];
-    let (mut list, mut list2) = (vec![0u16; 96], vec![0u16; 96]);
-    let ours = nizkabel::collapse(&bytes[0], &mut list);
-    assert_eq!(ours.number, 0);
-    assert_eq!((0, ours.listed), port::collapse(&bytes[0], &mut list2));
-    assert_eq!(list, list2);
+    agree_on_collapse(&bytes[0]);
     collapses(&name, &bytes, 100);
     #[cfg(before)]
     before::collapses(&name, &bytes.iter().collect::<Vec<_>>(), 100);

@@ -78,11 +78,11 @@ pub fn worst() -> Board {
     Board { points: exit + around, home: 0, zones }
 }
 
-/// A chain of points from home on with a turning loop at its far end, in which these zones are held, by carriers with heading 1: toward home.
+/// A chain of points from home on with a turning loop at its far end, in which these zones are held, by carriers with heading 1, on the chain toward home.
 pub fn chain(points: usize, held: impl Fn(usize) -> bool) -> Board {
     let zone = |z| {
-        let carrier = if held(z) { 1 + z as u32 } else { 0 };
-        Zone { a: z, b: (z + 1).min(points - 1), carrier, heading: carrier.min(1) }
+        let held = held(z) as u32;
+        Zone { a: z, b: (z + 1).min(points - 1), carrier: held * (1 + z as u32), heading: held }
     };
     Board { points, home: 0, zones: (0..points).map(zone).collect() }
 }

@@ -18,11 +18,11 @@ use Rattle.parts.proofs.looped_points.Statement.{statement}
 use Rattle.parts.proofs.looped_points.Tie as tie
 
 abbrev Inv-loop : tie.InvT-loop
-Inv-loop ends position ways counts all looped₀ after₀ rest₀ looped after rest =
-    (head : Head) → EndsAmong (head .points) (head .zones) ends position → all ≡ 2 ^ head .points - 1 → Looping (trackOf head ends) position ways looped rest after
+Inv-loop ends position ways counts all looped₀ grown₀ rest₀ looped grown rest =
+    (head : Head) → EndsAmong (head .points) (head .zones) ends position → all ≡ 2 ^ head .points - 1 → Looping (trackOf head ends) position ways looped rest grown
 
 abbrev μ-loop : tie.MeasureT-loop
-μ-loop ends position ways counts all looped₀ after₀ rest₀ looped after rest = 64 - ones (after .set)
+μ-loop ends position ways counts all looped₀ grown₀ rest₀ looped grown rest = 64 - ones (grown .set)
 
 slice-aggregate-add-ways : tie.Need-slice-aggregate-add-ways Inv-loop μ-loop
 slice-aggregate-add-ways c = search needs
@@ -66,7 +66,7 @@ grow-once-requires c κs =
       omega (arith, c .before .lowest .ensures .inside, made .add-ways .ensures .long),
       over-ways (a .pre) (over-all (a .pre) (made .add-ways .ensures)),
       looping-untouched (a .pre .few) inv (c .before .lowest .ensures),
-      omega (arith, inv .count, ones-le 64 (looping .loop .after .set) (inv .set-word)),
+      omega (arith, inv .count, ones-le 64 (looping .loop .grown .set) (inv .set-word)),
     )
 
 size-requires : tie.Need-size-requires Inv-loop μ-loop
@@ -108,7 +108,7 @@ loop-again c head among all =
     rw (c .fresh2 .ensures, all)
     (⊎-elim
     (λ k.
-    rw (k .2)
+    rw (k .1)
     (looping-marks (among .few) inv low (grown .grow-once .ensures) among over (omega (arith, summed .before .before .size .ensures, summed .zones-in .ensures, sum, k .0 .taken))))
     (λ k.
     rw (k .1)

@@ -1,4 +1,4 @@
--- `reach::grow_once` meets its contract: it gives the points that are reached from one, each grown from by one step more.
+-- `reach::grow_once` meets its contract: it finds the points that are reached from one, puts them into the set, and counts as many steps.
 -- The invariant is Growing (laws of GrowLaws): a fresh point was not grown from, as the step asks. The measure: points not grown from.
 use Prim.Native.Nat.{_-_}
 use native.Mathlib.Omega.{arith}
@@ -10,10 +10,10 @@ use Rattle.reach.proofs.grow_once.Statement.{statement}
 use Rattle.reach.proofs.grow_once.Tie as tie
 
 abbrev Inv-loop : tie.InvT-loop
-Inv-loop ways from found₀ after₀ fresh₀ found after fresh = Growing ways from after₀ after found fresh
+Inv-loop ways from found₀ grown₀ fresh₀ found grown fresh = Growing ways from grown₀ grown found fresh
 
 abbrev μ-loop : tie.MeasureT-loop
-μ-loop ways from found₀ after₀ fresh₀ found after fresh = 64 - ones (after .set)
+μ-loop ways from found₀ grown₀ fresh₀ found grown fresh = 64 - ones (grown .set)
 
 with-requires : tie.Need-with-requires Inv-loop μ-loop
 with-requires c κs = search needs

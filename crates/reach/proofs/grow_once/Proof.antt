@@ -34,8 +34,12 @@ step-requires c κs =
     let looping = c .before .before in
     let a = looping .before .before .before .before in
     let g = looping .loop .inv in
-    let low = c .lowest .ensures in
-    (reach-inside (a .pre .1) (a .pre .0) (g .sound _ (step-found g low)), low .inside, step-new g low, step-room g low (a .pre .3))
+    let low = c .lowest .ensures in (
+      omega (arith, a .pre .0, reach-inside (a .pre .1) (a .pre .0) (g .sound _ (step-found g low))),
+      omega (arith, a .pre .0, a .pre .1 .few, low .inside),
+      step-new g low,
+      step-room g low (a .pre .3),
+    )
 
 fresh-requires-2 : tie.Need-fresh-requires-2 Inv-loop μ-loop
 fresh-requires-2 c κs = tt

@@ -115,35 +115,35 @@ module _ {t : Track} {p : Position} {ways : List ℕ} where
           not-true-false (hasBit (after .set) r)
           (λ e. true≢false (sym (g .whole q r k e) ∙ minus-not-in (allPoints t) (after .set) q (all-word t few) (g .set-word) left))
 
-      module _ {part : Growth} (grown : GrownOnce ways q after part) where
-        joined-size : ones (bitOr (after .set) (part .found)) ≡ ones (after .set) + ones (part .found)
+      module _ {growth : Growth} (grown : GrownOnce ways q after growth) where
+        joined-size : ones (bitOr (after .set) (growth .found)) ≡ ones (after .set) + ones (growth .found)
         joined-size = size-grown after looping-untouched (grown .all) (g .set-word)
 
-        next-word : part .after .set < 2 ^ 64
-        next-word = subst (λ (x : ℕ). x < 2 ^ 64) (sym (grown .set)) (or-lt 64 (after .set) (part .found) (g .set-word) (grown .all .word))
+        next-word : growth .after .set < 2 ^ 64
+        next-word = subst (λ (x : ℕ). x < 2 ^ 64) (sym (grown .set)) (or-lt 64 (after .set) (growth .found) (g .set-word) (grown .all .word))
 
-        next-bit : (r : ℕ) → hasBit (part .after .set) r ≡ (hasBit (after .set) r || hasBit (part .found) r)
-        next-bit r = ap (λ (x : ℕ). hasBit x r) (grown .set) ∙ bit-or (after .set) (part .found) r
+        next-bit : (r : ℕ) → hasBit (growth .after .set) r ≡ (hasBit (after .set) r || hasBit (growth .found) r)
+        next-bit r = ap (λ (x : ℕ). hasBit x r) (grown .set) ∙ bit-or (after .set) (growth .found) r
 
         -- more points are grown from
-        pub looping-fewer : 64 - ones (part .after .set) < 64 - ones (after .set)
+        pub looping-fewer : 64 - ones (growth .after .set) < 64 - ones (after .set)
         looping-fewer =
             omega (
               arith,
               ap ones (grown .set),
               joined-size,
-              size-fewer (part .found) q (grown .all .word) (grown .all .whole q there),
-              ones-le 64 (part .after .set) next-word,
+              size-fewer (growth .found) q (grown .all .word) (grown .all .whole q there),
+              ones-le 64 (growth .after .set) next-word,
             )
 
         module _ (among : EndsAmong (t .points) (t .zones) (t .ends) p) (o : WaysOn (t .ends) (goesOn (t .ends) p false 0) (2 * t .zones) ways) where
           -- how many free zones start in the part
           abbrev starting : ℕ
-          starting = howMany (λ z. isFree p z && hasBit (part .found) (start t (2 * z))) (numbersBelow (t .zones))
+          starting = howMany (λ z. isFree p z && hasBit (growth .found) (start t (2 * z))) (numbersBelow (t .zones))
 
           -- the part is grown from, and marked where it holds a loop
-          looping-turn : (marked : ℕ) (b : Bool) → marked < 2 ^ 64 → ((r : ℕ) → hasBit marked r ≡ (hasBit looped r || (b && hasBit (part .found) r)))
-              → leb (howMany (hasBit (part .found)) (numbersBelow 64)) starting ≡ b → Looping t p ways marked (setMinus (allPoints t) (part .after .set)) (part .after)
+          looping-turn : (marked : ℕ) (b : Bool) → marked < 2 ^ 64 → ((r : ℕ) → hasBit marked r ≡ (hasBit looped r || (b && hasBit (growth .found) r)))
+              → leb (howMany (hasBit (growth .found)) (numbersBelow 64)) starting ≡ b → Looping t p ways marked (setMinus (allPoints t) (growth .after .set)) (growth .after)
           looping-turn marked b word bits test = record {
             looped-word = word;
             set-word = next-word;
@@ -151,21 +151,21 @@ module _ {t : Track} {p : Position} {ways : List ℕ} where
             grown-in = λ r e. ⊎-elim (g .grown-in r) (part-inside t among o q-in (grown .all) r) (in-next r e);
             whole = λ a r k e.
                 next-bit a
-                ∙ ⊎-elim (λ l. or-left (hasBit (after .set) a) (hasBit (part .found) a) (g .whole a r k l))
-                (λ l. or-right (hasBit (after .set) a) (hasBit (part .found) a) (part-whole t among o (grown .all) a r k l)) (in-next r e);
-            count = omega (arith, grown .steps, g .count, ap ones (grown .set), joined-size, size-count 64 (part .found) (grown .all .word));
+                ∙ ⊎-elim (λ l. or-left (hasBit (after .set) a) (hasBit (growth .found) a) (g .whole a r k l))
+                (λ l. or-right (hasBit (after .set) a) (hasBit (growth .found) a) (part-whole t among o (grown .all) a r k l)) (in-next r e);
+            count = omega (arith, grown .steps, g .count, ap ones (grown .set), joined-size, size-count 64 (growth .found) (grown .all .word));
             exact = λ r h.
-                bits r ∙ ap (λ (x : Bool). x || (b && hasBit (part .found) r)) (g .exact r h)
-                ∙ merged (loopAt t p r) (hasBit (after .set) r) b (hasBit (part .found) r)
+                bits r ∙ ap (λ (x : Bool). x || (b && hasBit (growth .found) r)) (g .exact r h)
+                ∙ merged (loopAt t p r) (hasBit (after .set) r) b (hasBit (growth .found) r)
                 (λ e. part-alike t among o q-in (grown .all) r h e ∙ sym (part-loop t among o q-in (grown .all)) ∙ test)
                 ∙ ap (λ (x : Bool). loopAt t p r && x) (sym (next-bit r));
           }
             where
-              in-next : (r : ℕ) → hasBit (part .after .set) r ≡ true → (hasBit (after .set) r ≡ true) ⊎ (hasBit (part .found) r ≡ true)
-              in-next r e = or-cases (hasBit (after .set) r) (hasBit (part .found) r) (sym (next-bit r) ∙ e)
+              in-next : (r : ℕ) → hasBit (growth .after .set) r ≡ true → (hasBit (after .set) r ≡ true) ⊎ (hasBit (growth .found) r ≡ true)
+              in-next r e = or-cases (hasBit (after .set) r) (hasBit (growth .found) r) (sym (next-bit r) ∙ e)
 
-          pub looping-marks : howMany (hasBit (part .found)) (numbersBelow 64) ≤ starting → Looping t p ways (bitOr looped (part .found)) (setMinus (allPoints t) (part .after .set)) (part .after)
-          looping-marks h = looping-turn (bitOr looped (part .found)) true (or-lt 64 looped (part .found) (g .looped-word) (grown .all .word)) (bit-or looped (part .found)) (le-leb _ _ h)
+          pub looping-marks : howMany (hasBit (growth .found)) (numbersBelow 64) ≤ starting → Looping t p ways (bitOr looped (growth .found)) (setMinus (allPoints t) (growth .after .set)) (growth .after)
+          looping-marks h = looping-turn (bitOr looped (growth .found)) true (or-lt 64 looped (growth .found) (g .looped-word) (grown .all .word)) (bit-or looped (growth .found)) (le-leb _ _ h)
 
-          pub looping-passes : starting < howMany (hasBit (part .found)) (numbersBelow 64) → Looping t p ways looped (setMinus (allPoints t) (part .after .set)) (part .after)
+          pub looping-passes : starting < howMany (hasBit (growth .found)) (numbersBelow 64) → Looping t p ways looped (setMinus (allPoints t) (growth .after .set)) (growth .after)
           looping-passes h = looping-turn looped false (g .looped-word) (λ r. sym (or-false (hasBit looped r))) (lt-leb _ _ h)

@@ -1,5 +1,5 @@
 -- What the functions of the collapse on sets of points hand to each other: ways over words, counts of free zones, the points of the parts
--- with a loop, and of the points that the parts were grown from how many steps that took.
+-- with a loop, and the points grown from with the count of steps.
 use Prim.Native.Nat.{ℕ, _+_, _*_, _^_, _≤_, _<_}
 use mathlib.Core.List.{List, [], _∷_}
 use mathlib.Core.Path.{_≡_}

@@ -30,7 +30,7 @@ pub record Growing (ways : List ℕ) (from : ℕ) (before after : GrownFrom) (fo
   pub grown : (q r : ℕ) → hasBit found q ≡ true → hasBit (after .set) q ≡ true → hasBit (getD ways q 0) r ≡ true → hasBit found r ≡ true
   pub count : after .steps + ones (before .set) ≡ before .steps + ones (after .set)
 
--- at the start the one point found is from, which is not grown from
+-- at the start one point is found, and it is not grown from
 pub begins : {ways : List ℕ} {from : ℕ} {before : GrownFrom} → from < 64 → before .set < 2 ^ 64 → Untouched ways from before
     → Growing ways from before before (2 ^ from) (setMinus (2 ^ from) (before .set))
 begins {ways} {from} {before} l word untouched = record {

@@ -117,17 +117,20 @@ fn collapses(name: &str, bytes: &[Vec<u8>], rounds: usize) {
 fn row(name: &str, what: &str, ours: &[f64], others: &[(&str, &[f64])]) {
     let ratio = |others: &[f64]| median(ours.iter().zip(others).map(|(a, b)| a / b).collect());
     let ratios: Vec<String> = others.iter().map(|(who, times)| format!("{who} {:.3}", ratio(times))).collect();
-    println!("{name:<8} {what:<9} {:>10.0} ns   {}", median(ours.to_vec()), ratios.join("   "));
+    println!("{name:<10} {what:<9} {:>10.0} ns   {}", median(ours.to_vec()), ratios.join("   "));
 }
 
-/// The row of the collapse of one chain, named by its kind and its points. A call takes under a microsecond or two, so 200 are timed at once.
-fn chain(name: &str, board: Board) {
-    let name = format!("{name} {}", board.points);
-    let bytes = vec![board.bytes(); 200];
-    agree_on_collapse(&bytes[0]);
-    collapses(&name, &bytes, 100);
+/// The rows of the collapse on boards on which nothing else is timed.
+fn collapses_alone(name: &str, bytes: &[Vec<u8>], rounds: usize) {
+    bytes.iter().for_each(|b| agree_on_collapse(b));
+    collapses(name, bytes, rounds);
     #[cfg(before)]
-    before::collapses(&name, &bytes.iter().collect::<Vec<_>>(), 100);
+    before::collapses(name, &bytes.iter().collect::<Vec<_>>(), rounds);
+}
+
+/// A chain, named by its kind and its points. A call is short, so 200 are timed at once.
+fn chain(name: &str, board: Board) {
+    collapses_alone(&format!("{name} {}", board.points), &vec![board.bytes(); 200], 100);
 }
 
 fn main() {
@@ -137,20 +140,25 @@ fn main() {
     }
     println!("ratios of the proved library's time to each other one's");
     let small: Vec<Board> = (0..2000).map(|_| boards::accepted(&mut random, 4, 6, 3, Loops::None)).collect();
-    let mut about_90_zones = |sparse, loops| -> Vec<Board> {
-        (0..60).map(|_| boards::accepted(&mut random, 40, 90, sparse, loops)).filter(|b| b.zones.len() <= 96).collect()
+    let mut about_90_zones = |count, sparse, loops| -> Vec<Board> {
+        (0..count).map(|_| boards::accepted(&mut random, 40, 90, sparse, loops)).filter(|b| b.zones.len() <= 96).collect()
     };
-    let (large, full) = (about_90_zones(4, Loops::None), about_90_zones(1, Loops::None));
+    let (large, full) = (about_90_zones(60, 4, Loops::None), about_90_zones(60, 1, Loops::None));
     group("small", &small, 100);
     group("large", &large, 100);
     group("full", &full, 100);
     group("worst", &vec![boards::worst(); 20], 40);
-    group("loops", &about_90_zones(4, Loops::OnceIn(2)), 100);
+    group("loops", &about_90_zones(60, 4, Loops::OnceIn(2)), 100);
     // In version 2; on the last boards all carriers have one low byte.
     group("small 2", &renumbered(&small, |c| c + 256), 100);
     group("large 2", &renumbered(&large, |c| c + 256), 100);
     group("full 2", &renumbered(&full, |c| c + 256), 100);
     group("alike 2", &renumbered(&full, |c| c * 256), 100);
+    // On the 60 boards above a collapse's time swings with where the code lies; it seems that the processor's branch predictor learns so few.
+    for (name, sparse, loops) in [("large", 4, Loops::None), ("full", 1, Loops::None), ("loops", 4, Loops::OnceIn(2))] {
+        let bytes: Vec<Vec<u8>> = about_90_zones(2800, sparse, loops).iter().map(|b| b.bytes()).collect();
+        collapses_alone(&format!("many {name}"), &bytes, 10);
+    }
     // Chains with one free part, one for each point, and one for every two points.
     for points in [8, 16, 32, 64] {
         chain("free", boards::chain(points, |_| false));

@@ -11,12 +11,12 @@ use lib.ListN.{length, getD, set, length-map, length-set, List·getD-map}
 use lib.Seq.{ext-getD, getD-set-same, getD-set-other}
 use lib.Dec.{eqb}
 use borrow.Author.Tests.{eqb-true, eqb-false, eq-eqb, ne-eqb, not-true}
-use Rattle.model.specs.Lists.{consIf, keep, anyOf, Ascending}
+use Rattle.model.specs.Lists.{consIf, keep, Ascending}
 use Rattle.model.specs.Track.{Track, zoneOf, headingOf}
 use Rattle.model.specs.Position.{Position, at, carrierOf, isFree, Stands, Out, Once, without, retire, outs}
 use Rattle.model.specs.Accepted.{Laid}
 use Rattle.model.proofs.BoolLaws.{decided}
-use Rattle.model.proofs.ListLaws.{mem-keep, keep-mem, any-false, any-mem, how-many-length}
+use Rattle.model.proofs.ListLaws.{mem-keep, keep-mem, how-many-length}
 use Rattle.model.proofs.AscendingLaws.{mem-ascending, ascending-mem, length-ascending, ascending-strict, ascending-unique, ascending-no-repeats, keep-ascending, NoRepeats}
 use Rattle.model.proofs.PlaceLaws.{keep-one-fewer, mem-getD, getD-mem}
 use Rattle.model.proofs.WordLaws.{below-zone, carrier-word, heading-small, heading-word, word-parts}
@@ -235,11 +235,3 @@ outs-retire c p o = outs-without (eqb c) p o
 -- one fewer is out
 pub outs-retire-length : (c : ℕ) (p : Position) → Once p → Out p c → length (outs (retire c p)) + 1 ≡ length (outs p)
 outs-retire-length c p o u = ap (λ (k : List ℕ). length k + 1) (outs-retire c p o) ∙ keep-one-fewer c (outs p) (ascending-no-repeats (outs p) (outs-ascending p o)) (outs-mem p u)
-
--- a carrier is out or not
-pub out-decided : (p : Position) (c : ℕ) → Out p c ⊎ (Out p c → ⊥)
-out-decided p c = go (decided (anyOf (eqb c) (outs p)))
-  where
-    go : (anyOf (eqb c) (outs p) ≡ true) ⊎ (anyOf (eqb c) (outs p) ≡ false) → Out p c ⊎ (Out p c → ⊥)
-    go (inl e) = inl (mem-outs p (any-mem c (outs p) e))
-    go (inr e) = inr (λ u. eqb-false c c (any-false (eqb c) e (outs-mem p u)) refl)

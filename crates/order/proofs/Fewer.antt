@@ -1,6 +1,6 @@
 -- Fewer carriers, more routes: a route of a carrier is one after any other carriers are taken off.
 -- And a carrier that is not out in a position within may be taken off before.
-use Prim.Native.Nat.{ℕ, _+_, _*_, _<_}
+use Prim.Native.Nat.{ℕ}
 use mathlib.Core.Path.{_≡_, refl, sym, ap, _∙_}
 use mathlib.Core.List.{List}
 use mathlib.Core.Bool.{Bool, true, false}
@@ -8,10 +8,11 @@ use mathlib.Core.Logic.{_⊎_, inl, inr}
 use lib.ListN.{length, List·getD-eq-default}
 use lib.Dec.{eqb, ltb}
 use borrow.Author.Tests.{eqb-true, ne-eqb, ltb-true, ltb-false}
-use Rattle.model.specs.Track.{Track, headingOf}
-use Rattle.model.specs.Position.{Position, at, carrierOf, Stands, Out, without, retire}
-use Rattle.model.proofs.PositionLaws.{at-without-kept, length-without, without-stands, held-stands}
+use Rattle.model.specs.Track.{Track}
+use Rattle.model.specs.Position.{Position, at, carrierOf, Out, without, retire}
+use Rattle.model.proofs.PositionLaws.{at-without-kept, length-without, without-stands}
 use Rattle.rules.specs.Routes.{Route, route}
+use Rattle.rules.proofs.Standing.{stands-in}
 use Rattle.order.proofs.Within.{Within, within-without, onward-within}
 
 -- for any set of carriers taken off
@@ -21,10 +22,6 @@ route-without {p = p} g (route s o) e = route (without-stands g s e) (onward-wit
 -- for one carrier taken off
 pub route-retire : {t : Track} {p : Position} {c : ℕ} {r : List ℕ} (d : ℕ) → Route t p c r → (c ≡ d → ⊥) → Route t (retire d p) c r
 route-retire {c = c} d r other = route-without (eqb d) r (ne-eqb d c (λ e. other (sym e)))
-
--- what a zone holds, with its heading, is a standing
-pub stands-in : (p : Position) (c z : ℕ) → (c ≡ 0 → ⊥) → z < length p → carrierOf (at p z) ≡ c → Stands p c (2 * z + headingOf (at p z))
-stands-in p c z numbered inside e = rw e at (held-stands p z inside (λ q. numbered (sym e ∙ q)))
 
 pub within-retired : (c : ℕ) (p : Position) → Within (retire c p) p
 within-retired c p = within-without (eqb c) p

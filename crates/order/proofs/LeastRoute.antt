@@ -19,11 +19,11 @@ use Rattle.rules.specs.Routes.{OnwardBy, Onward, Route, route}
 use Rattle.rules.specs.Search.{leastFrom}
 use Rattle.rules.specs.Tries.{CanGo}
 use Rattle.rules.specs.Key.{nexts, leavesHome, zoneFor, routeFrom, leastRoute, leastRouteBy}
+use Rattle.rules.proofs.Standing.{zone-stands, stands-zone}
 use Rattle.least.specs.Ways.{Way, Before, differs, later}
 use Rattle.least.proofs.LeastWay.{least-sound, least-shortest, least-smallest, least-exists}
 use Rattle.order.specs.LowestFirst.{Least}
 use Rattle.order.proofs.Steps.{nexts-step, step-nexts, nexts-below, nexts-ascending}
-use Rattle.order.proofs.Standing.{zone-stands, stands-zone}
 use Rattle.order.proofs.LastPosition.{goer-numbered}
 
 pub onward-way : {t : Track} {p : Position} {c w : ℕ} {vs : List ℕ} → Onward t p c w vs → Way (nexts t p c) (leavesHome t) w vs

@@ -3,7 +3,6 @@ pub mod OnlyLeft
 pub mod Fewer
 pub mod LastPosition
 pub mod Steps
-pub mod Standing
 pub mod LeastRoute
 pub mod FirstToGo
 pub mod KeyRun

@@ -2,6 +2,8 @@ pub mod RowsHold
 pub mod BoardMoves
 pub mod StepTested
 pub mod StepsAfter
+pub mod Standing
+pub mod MoveTested
 pub mod MoveElsewhere
 pub mod MovesGated
 pub mod OutTested

@@ -2,6 +2,7 @@ pub mod Routes
 pub mod Search
 pub mod Tries
 pub mod Key
+pub mod SingleMoves
 pub mod SearchCount
 pub mod Collapse
 pub mod Sheet

@@ -1,1 +1,1 @@
-// Definitions alone: what the key, the collapse and the mark are. See specs/.
+// Definitions alone: what the key, the collapse, the mark, the search count and a single move are. See specs/.

@@ -13,10 +13,10 @@ use Rattle.model.specs.Accepted.{Laid}
 use Rattle.model.proofs.PositionLaws.{stands-word, stands-below}
 use Rattle.rules.specs.Key.{steps, nexts}
 use Rattle.rules.specs.SearchCount.{foundFrom, reachedFromBy, reachedBy, reached}
+use Rattle.rules.proofs.Standing.{stands-zone}
 use Rattle.least.specs.Ways.{Way, ends, goes}
 use Rattle.least.proofs.Reachable.{Leads, found-leads, leads-found, found-ascending, found-most}
 use Rattle.order.proofs.Steps.{nexts-step, step-nexts, nexts-below}
-use Rattle.order.proofs.Standing.{stands-zone}
 use Rattle.searchcount.specs.Rounds.{Reaches, there, steps-on, Reached, FoundIsReached}
 
 module _ {t : Track} {p : Position} {c : ℕ} where

@@ -3,12 +3,12 @@
 use Prim.Native.Nat.{ℕ, _≤_}
 use mathlib.Core.List.{List, [], List·Memᴰ}
 use mathlib.Core.Path.{_≡_, sym, ap, _∙_, subst, subst₂}
-use mathlib.Core.Bool.{Bool, true, cond}
+use mathlib.Core.Bool.{true}
 use mathlib.Core.Logic.{_↔_, ⊎-elim}
 use native.Mathlib.Omega.{arith}
 use lib.ListN.{length, take}
 use lib.Dec.{ltb}
-use borrow.Author.Tests.{eq-eqb, ne-eqb, ltb-true, ltb-false}
+use borrow.Author.Tests.{ltb-true, ltb-false}
 use Rattle.model.proofs.BoolLaws.{decided}
 use Rattle.model.specs.Lists.{Ascending}
 use Rattle.model.specs.Track.{Track}
@@ -27,20 +27,17 @@ use Rattle.exam.specs.Parsed.{CollapseGiven}
 use Rattle.exam.specs.Operations.{CollapsePromise}
 use Rattle.exam.proofs.CollapseLaws.{collapse-short, named-counted, named-written}
 use Rattle.exam.proofs.KeyLaws.{key-drawn}
-use Rattle.model.proofs.ReadingLaws.{ready-said}
+use Rattle.model.proofs.ReadingLaws.{ready-said, if-accepted, if-refused}
 use Rattle.board.proofs.ReadBoard.{trackRead, positionRead, Said, number-read}
 
 module _ (b : List ℕ) (room : ℕ) where
-  by-refusal : Bool → CollapseAnswer
-  by-refusal x = cond x (collapseIn (trackSaid b) (positionSaid b) room) (record { number = refusal b; list = [] })
-
   collapse-refused-board : (refusal b ≡ 0 → ⊥) → collapseOf b room ≡ record { number = refusal b; list = [] }
-  unfolding collapseOf by-refusal
-  collapse-refused-board n = ap by-refusal (ne-eqb (refusal b) 0 n)
+  unfolding collapseOf
+  collapse-refused-board = if-refused b _ _
 
   collapse-read-board : refusal b ≡ 0 → collapseOf b room ≡ collapseIn (trackSaid b) (positionSaid b) room
-  unfolding collapseOf by-refusal
-  collapse-read-board e = ap by-refusal (eq-eqb (refusal b) 0 e)
+  unfolding collapseOf
+  collapse-read-board = if-accepted b _ _
 
 -- number 0 tells that the list was long enough
 long-enough : (t : Track) (p : Position) {list list′ : List ℕ} {number listed : ℕ} → CollapseGiven (collapseIn t p (length list)) list number listed list′ → number ≡ 0 → length (outs p) ≤ length list

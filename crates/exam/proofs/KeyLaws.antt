@@ -7,12 +7,12 @@ use mathlib.Core.Bool.{Bool, true, false, cond, not}
 use native.Mathlib.Omega.{arith}
 use lib.ListN.{length}
 use lib.Dec.{ltb}
-use borrow.Author.Tests.{lt-ltb, le-ltb, eq-eqb, ne-eqb}
+use borrow.Author.Tests.{lt-ltb, le-ltb, ne-eqb}
 use Rattle.model.specs.Track.{Track}
 use Rattle.model.specs.Position.{Position, outs}
 use Rattle.model.specs.Reading.{refusal, trackSaid, positionSaid}
 use Rattle.model.proofs.BoolLaws.{and-both}
-use Rattle.model.proofs.ReadingLaws.{refusal-small}
+use Rattle.model.proofs.ReadingLaws.{refusal-small, if-accepted, if-refused}
 use Rattle.rules.specs.Key.{verdictOf, KeyAnswer, turnedBack, turnsBack, keyFor, keyIn, keyInBy, keyOf, keyOfBy}
 use Rattle.exam.specs.Operations.{Drawn}
 
@@ -81,16 +81,13 @@ module _ (t : Track) (p : Position) (planRoom listRoom : ℕ) where
 -- the answer of a board in bytes
 
 module _ (b : List ℕ) (planRoom listRoom : ℕ) where
-  by-refusal : Bool → KeyAnswer
-  by-refusal x = cond x (keyIn (trackSaid b) (positionSaid b) planRoom listRoom) (turnedBack (refusal b))
-
   pub key-refused : (refusal b ≡ 0 → ⊥) → keyOf b planRoom listRoom ≡ turnedBack (refusal b)
-  unfolding keyOfBy by-refusal
-  key-refused n = ap by-refusal (ne-eqb (refusal b) 0 n)
+  unfolding keyOfBy
+  key-refused = if-refused b _ _
 
   pub key-read : refusal b ≡ 0 → keyOf b planRoom listRoom ≡ keyIn (trackSaid b) (positionSaid b) planRoom listRoom
-  unfolding keyOfBy by-refusal
-  key-read e = ap by-refusal (eq-eqb (refusal b) 0 e)
+  unfolding keyOfBy
+  key-read = if-accepted b _ _
 
   -- a key that was drawn is the key of the track and the position
   pub key-drawn : Drawn b (keyOf b planRoom listRoom .verdict) → keyOf b planRoom listRoom ≡ keyFor (trackSaid b) (positionSaid b)

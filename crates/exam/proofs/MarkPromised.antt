@@ -3,9 +3,7 @@
 use Prim.Native.Nat.{ℕ}
 use mathlib.Core.List.{List}
 use mathlib.Core.Path.{_≡_, sym, ap, _∙_, subst}
-use mathlib.Core.Bool.{Bool, cond}
 use mathlib.Core.Logic.{_↔_}
-use borrow.Author.Tests.{eq-eqb, ne-eqb}
 use Rattle.model.specs.Track.{Track}
 use Rattle.model.specs.Position.{Position}
 use Rattle.model.specs.Reading.{Bytes, refusal, trackSaid, positionSaid}
@@ -14,20 +12,17 @@ use Rattle.marking.proofs.SheetMarked.{marked-right}
 use Rattle.board.specs.declared.Board.{Board}
 use Rattle.board.specs.Given.{boardOf}
 use Rattle.exam.specs.Operations.{MarkPromise}
-use Rattle.model.proofs.ReadingLaws.{ready-said}
+use Rattle.model.proofs.ReadingLaws.{ready-said, if-accepted, if-refused}
 use Rattle.board.proofs.ReadBoard.{trackRead, positionRead, Said, number-read}
 
 module _ (b sheet : List ℕ) where
-  by-refusal : Bool → ℕ
-  by-refusal x = cond x (markFor (trackSaid b) (positionSaid b) sheet) (refusal b)
-
   mark-refused-board : (refusal b ≡ 0 → ⊥) → markOf b sheet ≡ refusal b
-  unfolding markOfBy by-refusal
-  mark-refused-board n = ap by-refusal (ne-eqb (refusal b) 0 n)
+  unfolding markOfBy
+  mark-refused-board = if-refused b _ _
 
   mark-read-board : refusal b ≡ 0 → markOf b sheet ≡ markFor (trackSaid b) (positionSaid b) sheet
-  unfolding markOfBy by-refusal
-  mark-read-board e = ap by-refusal (eq-eqb (refusal b) 0 e)
+  unfolding markOfBy
+  mark-read-board = if-accepted b _ _
 
   pub mark-turned-back : {r : Board} → r ≡ boardOf b → (r .number ≡ 0 → ⊥) → MarkPromise b sheet (r .number)
   mark-turned-back {r} e n =

@@ -124,6 +124,14 @@ module _ (b : List ℕ) where
       (cond-most (anyOf (underTwo b) (numbersBelow (pointsSaid b))) 8 _ (omega arith)
       (cond-most (apart b) 9 0 (omega arith) (omega arith)))))))))
 
+-- what an operation on bytes answers: one thing where the board is accepted, another where it is refused
+module _ {A : Type 0} (b : List ℕ) (x y : A) where
+  pub if-accepted : refusal b ≡ 0 → cond (eqb (refusal b) 0) x y ≡ x
+  if-accepted e = ap (λ (t : Bool). cond t x y) (eq-eqb (refusal b) 0 e)
+
+  pub if-refused : (refusal b ≡ 0 → ⊥) → cond (eqb (refusal b) 0) x y ≡ y
+  if-refused n = ap (λ (t : Bool). cond t x y) (ne-eqb (refusal b) 0 n)
+
 -- row 4
 pub record InRange (b : List ℕ) : Type 0 where
   pub points-least : 2 ≤ pointsSaid b

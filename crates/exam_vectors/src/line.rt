@@ -2,11 +2,11 @@
 use crate::say;
 ghost use Prim.Native.Nat.{_<_};
 
-// What was read of a line: the part that it is in (0 name, 1 operation, 2 numbers, 3 bytes), the last letter of the operation, and how many
-// numbers and bytes there are so far.
+// What was read of a line: the part that it is in (0 name, 1 operation, 2 numbers, 3 bytes), the operation's first letter, 0 before it is read,
+// and how many numbers and bytes there are so far.
 struct Line {
     part: u8,
-    last: u8,
+    letter: u8,
     numbers: usize,
     bytes: usize,
 }
@@ -82,13 +82,27 @@ fn part_of(part: u8, c: u8) -> u8 {
     part
 }
 
+// The operation's first letter, where this character is it or one before was.
+fn letter_of(letter: u8, part: u8, c: u8) -> u8 {
+    if part != 1 {
+        return letter;
+    }
+    if c == b' ' {
+        return letter;
+    }
+    if letter != 0 {
+        return letter;
+    }
+    c
+}
+
 // One more character of a line. The name and the operation are written out as they come.
 fn read_on(line: Line, c: u8, bytes: &mut [u8], numbers: &mut [u16]) -> Line {
     let part = part_of(line.part, c);
     if part == 3 {
         return Line {
             part: 3,
-            last: line.last,
+            letter: line.letter,
             numbers: line.numbers,
             bytes: more_bytes(bytes, line.bytes, c),
         };
@@ -96,7 +110,7 @@ fn read_on(line: Line, c: u8, bytes: &mut [u8], numbers: &mut [u16]) -> Line {
     if part == 2 {
         return Line {
             part: 2,
-            last: line.last,
+            letter: line.letter,
             numbers: more_numbers(numbers, line.numbers, c),
             bytes: 0,
         };
@@ -104,7 +118,7 @@ fn read_on(line: Line, c: u8, bytes: &mut [u8], numbers: &mut [u16]) -> Line {
     echo(c);
     Line {
         part: part,
-        last: c,
+        letter: letter_of(line.letter, part, c),
         numbers: 0,
         bytes: 0,
     }
@@ -114,10 +128,10 @@ fn read_on(line: Line, c: u8, bytes: &mut [u8], numbers: &mut [u16]) -> Line {
 fn answer(line: Line, bytes: &[u8], numbers: &[u16]) -> Line {
     let n = say::bytes_in(line.bytes, bytes);
     let m = say::numbers_in(line.numbers, numbers);
-    say::run(line.last, &bytes[..n], &numbers[..m]);
+    say::run(line.letter, &bytes[..n], &numbers[..m]);
     Line {
         part: 0,
-        last: 0,
+        letter: 0,
         numbers: 0,
         bytes: 0,
     }
@@ -126,7 +140,7 @@ fn answer(line: Line, bytes: &[u8], numbers: &[u16]) -> Line {
 pub fn answer_all(text: &[u8], bytes: &mut [u8], numbers: &mut [u16]) {
     let mut line = Line {
         part: 0,
-        last: 0,
+        letter: 0,
         numbers: 0,
         bytes: 0,
     };

@@ -45,6 +45,23 @@ fn say_collapse(bytes: &[u8], list: &mut [u16]) {
     say_list(list);
 }
 
+fn say_sheet(sheet: &[u32]) {
+    let mut z = 0;
+    while z < sheet.len() {
+        item(sheet[z] as u64);
+        z += 1;
+    }
+}
+
+fn say_replay(bytes: &[u8], log: &[u16], sheet: &mut [u32]) {
+    let replay = replay::replay(bytes, log, sheet);
+    item(replay.number as u64);
+    io::write_all(1, b" moves");
+    item(replay.moves as u64);
+    io::write_all(1, b" sheet");
+    say_sheet(sheet);
+}
+
 // n of these numbers, or all where there are fewer.
 pub fn numbers_in(n: usize, numbers: &[u16]) -> usize
     ensures { λ r. ⌜ Counts r (now (numbers .entry)) ⌝ }
@@ -85,11 +102,22 @@ fn run_collapse(bytes: &[u8], numbers: &[u16]) {
     say_collapse(bytes, &mut list[..list_room]);
 }
 
-// The operation by its last letter: `key`, `collapse` or `mark`.
-pub fn run(last: u8, bytes: &[u8], numbers: &[u16]) {
-    match last {
-        b'y' => run_key(bytes, numbers),
-        b'e' => run_collapse(bytes, numbers),
+fn run_replay(bytes: &[u8], numbers: &[u16]) {
+    if numbers.len() == 0 {
+        return;
+    }
+    let mut sheet = [60000u32; 4];
+    // The vectors lend 0 to 4 words.
+    let room = nth(numbers, 0) % 5;
+    say_replay(bytes, &numbers[1..], &mut sheet[..room]);
+}
+
+// The operation by its first letter: `key`, `collapse`, `replay` or `mark`.
+pub fn run(letter: u8, bytes: &[u8], numbers: &[u16]) {
+    match letter {
+        b'k' => run_key(bytes, numbers),
+        b'c' => run_collapse(bytes, numbers),
+        b'r' => run_replay(bytes, numbers),
         _ => item(exam::mark(bytes, numbers) as u64),
     }
     io::write_all(1, b"\n");

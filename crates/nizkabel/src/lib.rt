@@ -1,8 +1,9 @@
 // The operations for programs in C, C++ and Rust, under C's calling convention; include/nizkabel.h declares them. A slice is a pointer and a
-// count of elements. The lengths and the search count that an operation gives beside its number go to `out`. Each promise is the operation's own,
+// count of elements. The lengths and counts that an operation gives beside its number go to `out`. Each promise is the operation's own,
 // whole, with what `out` holds at exit in their place.
 ghost use lib.ListN.{getD};
 ghost use Rattle.exam.specs.Operations.{KeyPromise, CollapsePromise, MarkPromise};
+ghost use Rattle.replay.specs.Operation.{ReplayPromise};
 
 // The key of the board: out[0] is the count of words in the plan, out[1] the count of carriers in the list, out[2] the search count.
 #[no_mangle]
@@ -39,4 +40,20 @@ pub extern "C" fn nizkabel_mark(board: &[u8], sheet: &[u16]) -> u32
     ensures { λ r. ⌜ MarkPromise (now (board .entry)) (now (sheet .entry)) r ⌝ }
 {
     exam::mark(board, sheet)
+}
+
+// The replay of a move log: out[0] is the count of moves done.
+#[no_mangle]
+pub extern "C" fn nizkabel_replay(
+    board: &[u8],
+    log: &[u16],
+    sheet: &mut [u32],
+    out: &mut [u64; 1],
+) -> u32
+    ensures { λ r. ⌜ ReplayPromise (now (board .entry)) (now (log .entry)) (now (sheet .entry)) r (getD (now (out .exit)) 0 0) (now (sheet .exit)) ⌝ }
+{
+    let replay = replay::replay(board, log, sheet);
+    let moves = replay.moves as u64;
+    *out = [moves];
+    replay.number
 }

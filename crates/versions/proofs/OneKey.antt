@@ -10,6 +10,7 @@ use Rattle.rules.specs.Key.{turnedBack, keyIn, keyOfBy}
 use Rattle.rules.specs.SearchCount.{searched}
 use Rattle.rules.specs.Collapse.{collapseIn, collapseOf}
 use Rattle.rules.specs.Sheet.{markFor, markOfBy}
+use Rattle.movelog.specs.Replay.{replayRefused, replayIn, replayOf}
 use Rattle.versions.specs.Versions.{inVersion2, InBothVersions, AnswersBySaid, OneKey}
 use Rattle.versions.proofs.WideBytes.{say-same, wide-bytes}
 use Rattle.versions.proofs.WideRows.{wide-accepted}
@@ -22,7 +23,7 @@ pub in-both-versions : InBothVersions
 in-both-versions b e = record { version = of-version-2 b; accepted = wide-accepted b e; same = say-same b; bytes = wide-bytes b }
 
 pub answers-by-said : AnswersBySaid
-unfolding keyOfBy collapseOf markOfBy
+unfolding keyOfBy collapseOf markOfBy replayOf
 answers-by-said b d e f s =
     let r : refusal b ≡ refusal d = e ∙ sym f in
     record {
@@ -30,6 +31,7 @@ answers-by-said b d e f s =
       searched = λ i. searched (s .track i) (s .position i);
       collapse = λ n i. cond (eqb (r i) 0) (collapseIn (s .track i) (s .position i) n) (record { number = r i; list = [] });
       mark = λ ws i. cond (eqb (r i) 0) (markFor (s .track i) (s .position i) ws) (r i);
+      replay = λ log n i. cond (eqb (r i) 0) (replayIn (s .track i) (s .position i) log n) (replayRefused (r i));
     }
 
 pub one-key : OneKey

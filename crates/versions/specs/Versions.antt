@@ -9,6 +9,7 @@ use Rattle.rules.specs.Key.{keyOf}
 use Rattle.rules.specs.SearchCount.{searched}
 use Rattle.rules.specs.Collapse.{collapseOf}
 use Rattle.rules.specs.Sheet.{markOf}
+use Rattle.movelog.specs.Replay.{replayOf}
 
 module _ (b : List ℕ) where
   -- the five bytes of a zone in version 2: its ends, its carrier in two bytes, big-endian, and the heading
@@ -37,12 +38,13 @@ pub record SameInVersion2 (b d : List ℕ) : Type 0 where
   pub same : SaySame b d
   pub bytes : Bytes b → Bytes d
 
--- key, collapse and mark answer both boards alike, for every room and every sheet, and their search count is one
+-- key, collapse, mark and replay answer both boards alike, for every room, every sheet and every log, and their search count is one
 pub record SameAnswers (b d : List ℕ) : Type 0 where
   pub key : (planRoom listRoom : ℕ) → keyOf b planRoom listRoom ≡ keyOf d planRoom listRoom
   pub searched : searched (trackSaid b) (positionSaid b) ≡ searched (trackSaid d) (positionSaid d)
   pub collapse : (listRoom : ℕ) → collapseOf b listRoom ≡ collapseOf d listRoom
   pub mark : (sheet : List ℕ) → markOf b sheet ≡ markOf d sheet
+  pub replay : (log : List ℕ) (sheetRoom : ℕ) → replayOf b log sheetRoom ≡ replayOf d log sheetRoom
 
 -- of every accepted board, and so of every one of version 1
 abbrev pub InBothVersions : Type 0

@@ -1,0 +1,4 @@
+pub mod RowsHold
+pub mod CarriedLaws
+pub mod ReplayMet
+pub mod ReadyKept

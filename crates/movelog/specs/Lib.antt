@@ -1,0 +1,5 @@
+pub mod Log
+pub mod CarriedOut
+pub mod Replay
+pub mod ReplayRight
+pub mod ReplayRows

@@ -1,0 +1,4 @@
+pub mod Replaying
+pub mod Showing
+pub mod ReplayLaws
+pub mod ReplayPromised

@@ -1,12 +1,14 @@
-/* The key of a board, its collapse, and the mark of a sheet: the proved library, for C and C++ on x86-64 Linux.
+/* The key of a board, its collapse, the mark of a sheet, and the replay of a move log: the proved library, for C and C++ on x86-64 Linux.
  *
  * Link target/staticlib/libnizkabel.a, which ./build library makes. A call gives one of the numbers below and never fails in another way,
  * whatever the bytes; it allocates nothing, and calls from several threads don't meet. Lengths count elements. A pointer with length 0 may
- * point anywhere that is not null. What a call writes (plan, list, out) must not overlap anything else that it is lent.
+ * point anywhere that is not null. What a call writes (plan, list, position sheet, out) must not overlap anything else that it is lent.
  *
  * Board: in version 1, four bytes a zone with one for the carrier, or in version 2, five with two for it, high byte first.
  * Plan: for each carrier in turn its number, the count of words of its route, the words; a word is 2 x zone + heading. Sheet: 0 and a plan,
  * or 1 and the blocked carriers ascending. List: carriers' numbers ascending, a word each.
+ * Log: for each move the carrier's number and the word of the zone that it enters, or NIZKABEL_HOME. Position sheet: for each zone a 32-bit
+ * word, 0 where it is free, otherwise 2 x carrier + heading.
  */
 #ifndef NIZKABEL_H
 #define NIZKABEL_H
@@ -18,12 +20,16 @@
 extern "C" {
 #endif
 
-/* Rooms that are enough for every board: 96 carriers with 2 + 2 x 96 words each, and a word for each of them. */
+/* Rooms that are enough for every board: 96 carriers with 2 + 2 x 96 words each, a word for each of them, and a word for each of 96 zones. */
 #define NIZKABEL_PLAN_ROOM 18624
 #define NIZKABEL_LIST_ROOM 96
+#define NIZKABEL_POSITION_ROOM 96
 
-/* No call takes more bytes of stack, a first call through the dynamic linker included; a collapse or a mark takes half of it at most.
- * .ci/run measures this. */
+/* In a log, in the place of a word: into home. */
+#define NIZKABEL_HOME 65535
+
+/* No call takes more bytes of stack, a first call through the dynamic linker included; a collapse, a mark or a replay takes half of it at
+ * most. .ci/run measures this. */
 #define NIZKABEL_STACK 16384
 
 /* The numbers, as in the README's table. L, P and Z are the board's length, points and zones, C the carriers out. */
@@ -31,6 +37,7 @@ enum nizkabel_number {
     NIZKABEL_ORDERED = 0,         /* key: all carriers go home */
     NIZKABEL_COLLAPSED = 0,       /* collapse: done */
     NIZKABEL_RIGHT = 0,           /* mark: the sheet is right */
+    NIZKABEL_REPLAYED = 0,        /* replay: every move was carried out */
     NIZKABEL_TOO_SHORT = 1,       /* under 6 bytes */
     NIZKABEL_WRONG_LENGTH = 2,    /* L isn't the count of bytes after it */
     NIZKABEL_WRONG_VERSION = 3,   /* version is neither 1 nor 2 */
@@ -48,7 +55,10 @@ enum nizkabel_number {
     NIZKABEL_BAD_WORD = 32,       /* its first word isn't where it stands, or a word breaks the rules or goes on from home */
     NIZKABEL_NOT_HOME = 33,       /* its last word doesn't leave at home */
     NIZKABEL_STILL_OUT = 34,      /* a carrier is still out at the end */
-    NIZKABEL_FALSE_CLAIM = 35     /* a false claim of blocked */
+    NIZKABEL_FALSE_CLAIM = 35,    /* a false claim of blocked */
+    NIZKABEL_SHORT_POSITION = 36, /* position sheet lent for under Z words */
+    NIZKABEL_ODD_LOG = 37,        /* the log has an odd count of words */
+    NIZKABEL_FORBIDDEN = 38       /* replay: stopped at a move that the rules forbid, or of a carrier that isn't out */
 };
 
 /* Draws the key of a board. Gives 0 or 20, or 1 to 11 where it is turned back. The plan's words and the blocked carriers' numbers are
@@ -65,6 +75,13 @@ uint32_t nizkabel_collapse(const uint8_t *board, size_t board_len, uint16_t *lis
 
 /* Marks a sheet: 0 where it is right, 30 to 35 where it is not, 1 to 9 for a bad board. Nothing is written. */
 uint32_t nizkabel_mark(const uint8_t *board, size_t board_len, const uint16_t *sheet, size_t sheet_len);
+
+/* Replays a move log from the board's first position. Gives 0 where every move was carried out, and 38 where it stopped, at a move that the
+ * rules forbid or of a carrier that isn't out. A carrier goes into a word below 2 x Z whose zone is free and that starts where the carrier
+ * leaves its own zone; one that leaves at the home point goes into home and nowhere else, and no other goes there. The first Z words of the position sheet are then the position
+ * after the moves done, the words past them stay as they were, and out[0] is the count of these moves. Gives 1 to 9, 36 or 37, tried in this order,
+ * where it is turned back; the position sheet then stays as it was, and out[0] is 0. */
+uint32_t nizkabel_replay(const uint8_t *board, size_t board_len, const uint16_t *log, size_t log_len, uint32_t *sheet, size_t sheet_len, uint64_t out[1]);
 
 #ifdef __cplusplus
 }

@@ -6,8 +6,8 @@
 mod before;
 mod port;
 
-use compare::{boards::{self, Loops}, random::Random};
-use second::Board;
+use compare::{boards::{self, Loops}, logs, random::Random, sheets};
+use second::{Board, Key};
 use std::hint::black_box;
 use std::time::Instant;
 
@@ -62,17 +62,20 @@ fn agree_on_collapse(board: &[u8]) {
     assert_eq!(left, port_left);
 }
 
+fn agree_on_replay(board: &[u8], log: &[u16]) {
+    let (mut sheet, mut port_sheet) = ([1u32; 97], [1u32; 97]);
+    let replay = nizkabel::replay(board, log, &mut sheet);
+    assert_eq!((replay.number, replay.moves), (0, log.len() as u64 / 2));
+    assert_eq!((replay.number, replay.moves), port::replay(board, log, &mut port_sheet));
+    assert_eq!(sheet, port_sheet);
+}
+
 fn group(name: &str, boards: &[Board], rounds: usize) {
     let bytes: Vec<Vec<u8>> = boards.iter().map(|b| b.bytes()).collect();
     let mut plan = vec![0u16; 96 * 194];
     let mut list = vec![0u16; 96];
-    let sheets: Vec<Vec<u16>> = bytes
-        .iter()
-        .map(|b| {
-            let key = second::key(b, 96 * 194, 96);
-            if key.verdict == 0 { [vec![0], key.plan].concat() } else { std::iter::once(1).chain(key.list.iter().map(|&c| c as u16)).collect() }
-        })
-        .collect();
+    let keys: Vec<Key> = bytes.iter().map(|b| second::key(b, 96 * 194, 96)).collect();
+    let sheets: Vec<Vec<u16>> = keys.iter().map(|key| if key.verdict == 0 { [&[0], &key.plan[..]].concat() } else { sheets::claim(&key.list) }).collect();
     let n = bytes.len();
     for (b, sheet) in bytes.iter().zip(&sheets) {
         agree(b, sheet);
@@ -94,6 +97,8 @@ fn group(name: &str, boards: &[Board], rounds: usize) {
     ]);
     let [mark_second] = times(2, n, [&mut || pairs.iter().for_each(|(b, s)| { black_box(second::mark(black_box(b), s)); })]);
     row(name, "mark", &mark, &[("port", &mark_port), ("second", &mark_second)]);
+    let logs: Vec<Vec<u16>> = keys.iter().map(|key| logs::of_plan(&key.plan).concat()).collect();
+    replays(name, &bytes.iter().zip(&logs).collect::<Vec<_>>(), 10 * rounds);
     #[cfg(before)]
     if bytes.iter().all(|b| b[2] == 1) {
         before::group(name, &pairs, rounds);
@@ -110,6 +115,34 @@ fn collapses(name: &str, bytes: &[Vec<u8>], rounds: usize) {
     ]);
     let [collapse_second] = times(2, n, [&mut || bytes.iter().for_each(|b| { black_box(second::collapse(black_box(b), 96)); })]);
     row(name, "collapse", &collapse, &[("port", &collapse_port), ("second", &collapse_second)]);
+}
+
+/// The row of the replay, of logs that are carried out whole.
+fn replays(name: &str, pairs: &[(&Vec<u8>, &Vec<u16>)], rounds: usize) {
+    pairs.iter().for_each(|(b, log)| agree_on_replay(b, log));
+    let (mut sheet, mut sheet2) = ([0u32; 96], [0u32; 96]);
+    let [replay, replay_port] = times(rounds, pairs.len(), [
+        &mut || pairs.iter().for_each(|(b, log)| { black_box(nizkabel::replay(black_box(b), log, &mut sheet)); }),
+        &mut || pairs.iter().for_each(|(b, log)| { black_box(port::replay(black_box(b), log, &mut sheet2)); }),
+    ]);
+    let few = &pairs[..pairs.len().min(4)];
+    let [replay_second] = times(1, few.len(), [&mut || few.iter().for_each(|(b, log)| { black_box(second::replay(black_box(b), log, 96)); })]);
+    row(name, "replay", &replay, &[("port", &replay_port), ("second", &replay_second)]);
+}
+
+/// So many carriers out on 90 zones, and logs of 4,000 moves, so a move takes a 4,000th of the time. They go into home only where nothing else is
+/// allowed, so nearly all stay out, and the look for a carrier's zone is long.
+fn long_replays(random: &mut Random, out: usize) {
+    let mut pairs = Vec::new();
+    while pairs.len() < 20 {
+        let full = boards::accepted(random, 40, 90, 1, Loops::None);
+        let board = full.carriers()[out..].iter().fold(full.clone(), |board, &carrier| board.without(carrier));
+        let log = logs::walk(random, &board, 4_000, usize::MAX);
+        if log.len() == 4_000 {
+            pairs.push((board.bytes(), log.concat()));
+        }
+    }
+    replays(&format!("4000 by {out}"), &pairs.iter().map(|(board, log)| (board, log)).collect::<Vec<_>>(), 40);
 }
 
 /// One line: the median time, and the median over the rounds of its ratio to each other program's time in the same round. The second
@@ -138,6 +171,11 @@ fn main() {
     for (board, sheet, _, number) in second::document_02::at_gate() {
         assert_eq!((nizkabel::mark(&board, sheet), port::mark(&board, sheet)), (number, number));
     }
+    for (board, log, room, number, moves, written) in second::document_02::replays() {
+        let mut sheet = vec![0; room];
+        assert_eq!(port::replay(&board, log, &mut sheet), (number, moves));
+        assert!(sheet.starts_with(written));
+    }
     println!("ratios of the proved library's time to each other one's");
     let small: Vec<Board> = (0..2000).map(|_| boards::accepted(&mut random, 4, 6, 3, Loops::None)).collect();
     let mut about_90_zones = |count, sparse, loops| -> Vec<Board> {
@@ -159,6 +197,8 @@ fn main() {
         let bytes: Vec<Vec<u8>> = about_90_zones(2800, sparse, loops).iter().map(|b| b.bytes()).collect();
         collapses_alone(&format!("many {name}"), &bytes, 10);
     }
+    long_replays(&mut random, 45);
+    long_replays(&mut random, 80);
     // Chains with one free part, one for each point, and one for every two points.
     for points in [8, 16, 32, 64] {
         chain("free", boards::chain(points, |_| false));

@@ -1,5 +1,6 @@
-//! Random boards and sheets, shared by the comparison and the benchmark.
+//! Random boards, sheets and move logs, shared by the comparison and the benchmark.
 
 pub mod boards;
+pub mod logs;
 pub mod random;
 pub mod sheets;

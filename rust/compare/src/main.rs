@@ -1,18 +1,22 @@
-//! Compares the proved library with the second implementation on many boards and sheets, whole: numbers, lengths, search counts, every word of
-//! plan and list, and canaries past what may be written. Ends with status 1 at the first difference.
+//! Compares the proved library with the second implementation on many boards, sheets and move logs, whole: numbers, lengths, counts, every word of
+//! plan, list and position sheet, and canaries past what may be written. Ends with status 1 at the first difference.
 
 mod blocked;
 mod gate;
 mod loops;
+mod replay_tally;
+mod replays;
 mod searched;
 mod versions;
 
 use blocked::BlockedTally;
 use compare::boards::{self, Loops, Numbers};
 use compare::random::Random;
-use compare::sheets;
+use compare::{logs, sheets};
 use gate::GateTally;
 use loops::LoopTally;
+use replay_tally::ReplayTally;
+use replays::{compare_logs, compare_replay, compare_single_moves, Lent};
 use searched::SearchTally;
 use second::{Board, Key, Rule};
 use versions::{answers, Answers, VersionTally};
@@ -35,6 +39,8 @@ struct Tally {
     versions: VersionTally,
     searched: SearchTally,
     small_searched: SearchTally,
+    replays: ReplayTally,
+    single_moves: usize,
     verdicts: std::collections::BTreeMap<u32, usize>,
     marks: std::collections::BTreeMap<u32, usize>,
 }
@@ -50,8 +56,8 @@ fn differ(what: &str, board: &[u8], detail: String) -> ! {
 const PAST: usize = 4;
 
 /// What a vector full of canaries, lent but for its last words, holds once these words are written to its start.
-fn whole(words: impl IntoIterator<Item = u16>, room: usize, canary: u16) -> Vec<u16> {
-    let mut whole: Vec<u16> = words.into_iter().collect();
+fn whole<T: Clone>(words: impl IntoIterator<Item = T>, room: usize, canary: T) -> Vec<T> {
+    let mut whole: Vec<T> = words.into_iter().collect();
     whole.resize(room + PAST, canary);
     whole
 }
@@ -116,11 +122,11 @@ fn compare_run_on(tally: &mut Tally, board: &Board, bytes: &[u8], sheet: &[u16])
 }
 
 /// The library says the same of a board in both versions, where both have room for its numbers. Gives how many times it was asked so: once, or not.
-fn compare_versions(board: &Board, plan_room: usize, list_room: usize, sheets: &[Vec<u16>]) -> usize {
-    let said: Vec<Answers> = board.in_each_version().iter().map(|bytes| answers(bytes, plan_room, list_room, sheets)).collect();
+fn compare_versions(board: &Board, plan_room: usize, list_room: usize, sheets: &[Vec<u16>], logs: &[Lent]) -> usize {
+    let said: Vec<Answers> = board.in_each_version().iter().map(|bytes| answers(bytes, plan_room, list_room, sheets, logs)).collect();
     let [one, two] = &said[..] else { return 0 };
     if one != two {
-        differ("the two versions", &board.bytes(), format!("sheets {sheets:?}\nversion 1 {one:?}\nversion 2 {two:?}"));
+        differ("the two versions", &board.bytes(), format!("sheets {sheets:?}\nlogs {logs:?}\nversion 1 {one:?}\nversion 2 {two:?}"));
     }
     1
 }
@@ -191,8 +197,9 @@ fn compare_board(tally: &mut Tally, random: &mut Random, board: &Board) {
     for sheet in &marked {
         compare_mark(tally, &bytes, sheet);
     }
+    let logs = compare_logs(&mut tally.replays, random, board, &bytes, &keys[0], [&tried, &run_on]);
     marked.push(run_on);
-    tally.versions.in_both += compare_versions(board, room, out, &marked);
+    tally.versions.in_both += compare_versions(board, room, out, &marked, &logs);
     if let Some((zone, sheet)) = sheets::run_again(random, board, &tried) {
         compare_mark(tally, &bytes, &sheet);
         if nizkabel::mark(&bytes, &sheet) != 32 {
@@ -224,7 +231,7 @@ fn compare_exhaustive(tally: &mut Tally, board: &Board) {
 }
 
 /// A board that may be refused: the key, the collapse and the key's own sheet, and an accepted one by exhaustion, with a sheet for every route
-/// of every carrier by the older rule.
+/// of every carrier by the older rule, and every single move.
 fn compare_small(tally: &mut Tally, board: &Board) {
     let bytes = board.bytes();
     let accepted = second::read(&bytes).is_ok();
@@ -234,8 +241,11 @@ fn compare_small(tally: &mut Tally, board: &Board) {
     let [Key { plan, list, .. }, _] = &keys;
     let sheet = if list.is_empty() { [&[0], &plan[..]].concat() } else { sheets::claim(list) };
     compare_mark(tally, &bytes, &sheet);
-    tally.versions.small_in_both += compare_versions(board, 24, 3, &[sheet]);
+    let moves = Lent { log: logs::of_plan(plan).concat(), room: 3, canary: 0 };
+    moves.by_both(&bytes);
+    tally.versions.small_in_both += compare_versions(board, 24, 3, &[sheet], &[moves]);
     if accepted {
+        tally.single_moves += compare_single_moves(board);
         tally.small_searched.add(board, &keys);
         count_blocked(tally, board);
         compare_exhaustive(tally, board);
@@ -297,12 +307,35 @@ fn main() {
         let (plan_room, list_room) = (random.below(300), random.below(12));
         compare_key(&mut tally, &bytes, plan_room, list_room);
         compare_mark(&mut tally, &bytes, &sheets::noise(&mut random));
+        let mut log = logs::noise(&mut random, &board).concat();
+        if random.once_in(2) {
+            log.pop();
+        }
+        let room = random.below(2) * random.below(12);
+        let lent = Lent::new(&mut random, log, room);
+        compare_replay(&mut tally.replays, &bytes, second::read(&bytes).ok().as_ref(), &lent);
     }
     for _ in 0..5_000 {
         let length = random.below(40);
         let bytes: Vec<u8> = (0..length).map(|_| random.next() as u8).collect();
         count_bytes(&mut tally, &bytes);
         compare_key(&mut tally, &bytes, 8, 8);
+        let (log, room) = (sheets::noise(&mut random), random.below(8));
+        let lent = Lent::new(&mut random, log, room);
+        compare_replay(&mut tally.replays, &bytes, second::read(&bytes).ok().as_ref(), &lent);
+    }
+    // Long logs on large boards.
+    for _ in 0..20 {
+        let (board, log) = loop {
+            let sparse = 1 + random.below(4);
+            let board = any_board(&mut random, 40, 80, sparse);
+            let log = logs::walk(&mut random, &board, 2_000, 100);
+            if log.len() == 2_000 {
+                break (board, log.concat());
+            }
+        };
+        let (bytes, lent) = (boards::written(&mut random, &board), Lent::new(&mut random, log, 96));
+        compare_replay(&mut tally.replays, &bytes, Some(&board), &lent);
     }
     compare_board(&mut tally, &mut random, &boards::worst());
     // Chains of every length with one free part, one for each point, and one for every two points.
@@ -332,15 +365,20 @@ fn main() {
         println!("too few boards of some kind by their search count: {:?}, small ones {:?}", tally.searched, tally.small_searched);
         std::process::exit(1);
     }
+    if !tally.replays.fair() {
+        println!("too few replays of some kind: {:?}", tally.replays);
+        std::process::exit(1);
+    }
     println!(
-        "{} boards ({} accepted), {} sheets ({} passed), {} boards by exhaustion, {} of them full: no difference",
-        tally.boards, tally.accepted, tally.sheets, tally.passed, tally.exhaustive, tally.full
+        "{} boards ({} accepted), {} sheets ({} passed), {} replays, {} boards by exhaustion, {} of them full, {} single moves on small ones: no difference",
+        tally.boards, tally.accepted, tally.sheets, tally.passed, tally.replays.replays(), tally.exhaustive, tally.full, tally.single_moves
     );
     println!("turning loops: {:?}", tally.loops);
     println!("sheets that the home gate turns to 32: {:?}", tally.gate);
     println!("blocked carriers: {:?}", tally.blocked);
     println!("versions: {:?}", tally.versions);
     println!("search counts: {:?}, small boards {:?}", tally.searched, tally.small_searched);
+    println!("replays: {:?}", tally.replays);
     println!("verdicts {:?}", tally.verdicts);
     println!("marks {:?}", tally.marks);
 }

@@ -1,5 +1,5 @@
-//! The same operations with what they give in vectors. They lend the library room that is enough for every board, so 10 and 11 don't
-//! come, and a board that isn't accepted is an error.
+//! The same operations with what they give in vectors. They lend the library room that is enough for every board, so 10, 11 and 36 don't
+//! come, and a log of pairs is never odd, so neither does 37; a board that isn't accepted is an error.
 //!
 //! ```
 //! use nizkabel::owned;
@@ -24,7 +24,7 @@
 //! # }
 //! ```
 
-use crate::{LIST_ROOM, PLAN_ROOM};
+use crate::{LIST_ROOM, PLAN_ROOM, POSITION_ROOM};
 use std::fmt;
 
 /// One carrier's way home: the words of its route, each 2 × zone + heading.
@@ -42,6 +42,21 @@ pub struct Key {
     pub entries: Vec<Entry>,
     pub blocked: Vec<u16>,
     pub searched: u32,
+}
+
+/// What a zone holds: a carrier, and its heading there, 0 from end A to end B, 1 from B to A.
+#[derive(Clone, Copy, Debug, PartialEq, Eq)]
+pub struct Held {
+    pub carrier: u16,
+    pub heading: u16,
+}
+
+/// The replay of a move log on an accepted board: what each zone holds after the moves done, none where it is free, and the place in the log of the
+/// move that the rules forbid, none where every move was carried out.
+#[derive(Clone, Debug, PartialEq, Eq)]
+pub struct Replay {
+    pub position: Vec<Option<Held>>,
+    pub stopped_at: Option<usize>,
 }
 
 /// Why a board isn't accepted: a number from 1 to 9.
@@ -109,4 +124,33 @@ pub fn mark(board: &[u8], sheet: &[u16]) -> Result<u32, Refused> {
     let number = crate::mark(board, sheet);
     Refused::unless_accepted(number)?;
     Ok(number)
+}
+
+/// Replays a move log from the board's first position: for each move the carrier, then the word of the zone that it enters, or [`crate::HOME`].
+///
+/// ```
+/// use nizkabel::owned::{self, Held};
+/// use nizkabel::HOME;
+///
+/// # fn main() -> Result<(), owned::Refused> {
+/// // T with carriers 7 heading out and 9 heading home: 7 can't enter zone 1 before 9 has gone home.
+/// let board = [0x00, 0x0C, 1, 2, 0, 2, 0, 1, 7, 0, 0, 1, 9, 1];
+/// let replay = owned::replay(&board, &[[9, HOME], [7, 3]])?;
+/// assert_eq!(replay.position, [None, Some(Held { carrier: 7, heading: 1 })]);
+/// assert_eq!(replay.stopped_at, None);
+///
+/// let too_soon = owned::replay(&board, &[[7, 3], [9, HOME]])?;
+/// assert_eq!(too_soon.stopped_at, Some(0));
+/// # Ok(())
+/// # }
+/// ```
+pub fn replay(board: &[u8], log: &[[u16; 2]]) -> Result<Replay, Refused> {
+    let mut sheet = vec![0; POSITION_ROOM];
+    let replay = crate::replay(board, log.as_flattened(), &mut sheet);
+    Refused::unless_accepted(replay.number)?;
+    // An accepted board has its count of zones in byte 5.
+    sheet.truncate(board[5].into());
+    let held = |word: u32| (word != 0).then_some(Held { carrier: (word / 2) as u16, heading: (word % 2) as u16 });
+    let stopped_at = (replay.number != 0).then_some(replay.moves as usize);
+    Ok(Replay { position: sheet.into_iter().map(held).collect(), stopped_at })
 }

@@ -1,12 +1,23 @@
-//! The boards, sheets and refusals of documents 01 and 02 by the wrapper's two layers.
+//! The boards, sheets, move logs and refusals of documents 01 and 02 by the wrapper's two layers.
 
-use nizkabel::owned::{self, Entry, Refused};
-use second::document_01::{k, refused, starred, SHEETS_FOR_K};
+use nizkabel::owned::{self, Entry, Held, Refused};
+use nizkabel::{Replay, HOME, POSITION_ROOM};
+use second::document_01::{k, refused, starred, turn, SHEETS_FOR_K};
 use second::document_02::{at_gate, held, loops_refused, one_blocked, searched, searches, to_loop, turning_loops, two_zones, SHEETS_FOR_LOOP};
-use second::document_02::{versions_refused, wide_carriers, wide_sheets, wide_t};
+use second::document_02::{long_replays, replays, versions_refused, wide_carriers, wide_sheets, wide_t};
 
 fn plan(entries: &[Entry]) -> Vec<u16> {
     entries.iter().flat_map(|e| [e.carrier, e.words.len() as u16].into_iter().chain(e.words.iter().copied())).collect()
+}
+
+/// The key's plan, carried out move by move, leaves the blocked carriers alone out.
+fn run_home(board: &[u8], key: &owned::Key) {
+    let moves = |e: &Entry| -> Vec<[u16; 2]> { e.words[1..].iter().chain([&HOME]).map(|&word| [e.carrier, word]).collect() };
+    let replay = owned::replay(board, &key.entries.iter().flat_map(moves).collect::<Vec<_>>()).unwrap();
+    assert_eq!((replay.stopped_at, replay.position.len()), (None, board[5].into()));
+    let mut out: Vec<u16> = replay.position.iter().flatten().map(|held| held.carrier).collect();
+    out.sort();
+    assert_eq!(out, key.blocked);
 }
 
 #[test]
@@ -18,6 +29,7 @@ fn boards() {
             assert_eq!(owned::collapse(&board).unwrap(), key.blocked);
             let sheet = if verdict == 0 { [&[0], words].concat() } else { [&[1], blocked].concat() };
             assert_eq!(owned::mark(&board, &sheet), Ok(0));
+            run_home(&board, &key);
         }
     }
 }
@@ -42,6 +54,8 @@ fn refusal(board: &[u8], number: u32) -> Refused {
     assert_eq!(nizkabel::key(board, &mut [], &mut []), turned_back(number));
     assert_eq!(owned::collapse(board), Err(refused));
     assert_eq!(owned::mark(board, &[0]), Err(refused));
+    assert_eq!(nizkabel::replay(board, &[7], &mut []), Replay { number, moves: 0 });
+    assert_eq!(owned::replay(board, &[[7, HOME]]), Err(refused));
     refused
 }
 
@@ -104,7 +118,7 @@ fn list_words() {
     assert_eq!(list, [7, 263, 9]);
 }
 
-/// 96 zones, each with a carrier: nothing is turned back for want of room.
+/// 96 zones, each with a carrier: nothing is turned back for want of room, but for a position sheet that lacks a word.
 #[test]
 fn the_largest_boards() {
     for (version, heading) in [(1, 0), (1, 1), (2, 0), (2, 1)] {
@@ -114,5 +128,49 @@ fn the_largest_boards() {
         assert_eq!((key.verdict, key.entries.len(), key.blocked.len()), expected);
         assert_eq!(key.searched, second::key(&board, nizkabel::PLAN_ROOM, nizkabel::LIST_ROOM).searched);
         assert_eq!(owned::collapse(&board).unwrap(), key.blocked);
+        run_home(&board, &key);
+        let first: Vec<u32> = second::read(&board).unwrap().zones.iter().map(|z| 2 * z.carrier + z.heading).collect();
+        compare_replay(&board, &[], POSITION_ROOM, Replay { number: 0, moves: 0 }, &first);
+        compare_replay(&board, &[], POSITION_ROOM - 1, Replay { number: 36, moves: 0 }, &[]);
+    }
+}
+
+/// A replay by the first layer: so many words are lent, and what isn't written of them, or stands past them, stays as it was, also where it says
+/// that carrier 7 is in a zone.
+fn compare_replay(board: &[u8], log: &[u16], room: usize, expected: Replay, written: &[u32]) {
+    for canary in [0xA5C3_B7D9, 2 * 7 + 1] {
+        let mut sheet = vec![canary; room + 4];
+        assert_eq!(nizkabel::replay(board, log, &mut sheet[..room]), expected);
+        let mut whole = written.to_vec();
+        whole.resize(room + 4, canary);
+        assert_eq!(sheet, whole);
+    }
+}
+
+/// The same by the second layer, which lends enough and takes pairs.
+fn compare_owned(board: &[u8], log: &[u16], expected: Replay, written: &[u32]) {
+    let pairs: Vec<[u16; 2]> = log.chunks(2).map(|pair| [pair[0], pair[1]]).collect();
+    let replay = owned::replay(board, &pairs).unwrap();
+    let word = |held: Held| 2 * u32::from(held.carrier) + u32::from(held.heading);
+    let sheet: Vec<u32> = replay.position.into_iter().map(|zone| zone.map_or(0, word)).collect();
+    assert_eq!(sheet, written);
+    assert_eq!(replay.stopped_at, (expected.number == 38).then_some(expected.moves as usize));
+}
+
+#[test]
+fn replayed() {
+    for (row, log, room, number, moves, written) in replays() {
+        for board in second::read(&row).map_or(vec![row], |said| said.in_each_version()) {
+            let expected = Replay { number, moves };
+            compare_replay(&board, log, room, expected, written);
+            if [0, 38].contains(&number) {
+                compare_owned(&board, log, expected, written);
+            }
+        }
+    }
+    for (log, number, moves, written) in long_replays() {
+        let expected = Replay { number, moves };
+        compare_replay(&turn(0, 0), &log, 3, expected, &written);
+        compare_owned(&turn(0, 0), &log, expected, &written);
     }
 }

@@ -1,6 +1,7 @@
-//! Boards and sheets of the requests of document 02 with what they give, for the tests of this implementation and of the wrapper.
+//! Boards, sheets and move logs of the requests of document 02 with what they give, for the tests of this implementation and of the wrapper.
 
-use crate::document_01::{far_loop, k, t, turn, Row};
+use crate::document_01::{far_loop, k, refused, t, turn, Row};
+use crate::replay::HOME;
 
 /// A board with home 0, so many points, and for each zone its bytes: four in version 1, five in version 2.
 fn laid_out<const N: usize>(points: u8, zones: &[[u8; N]]) -> Vec<u8> {
@@ -57,19 +58,23 @@ pub const SHEETS_FOR_LOOP: [(&[u16], u32); 4] = [
     (&[1, 5], 35),
 ];
 
+/// Board T with carrier 7 heading for point 0, and this home.
+fn toward_0(home: u8) -> Vec<u8> {
+    let mut board = t([7, 1], [0, 0]);
+    board[4] = home;
+    board
+}
+
 /// Request d: boards and sheets with their marks by the older moving rule and with the home gate.
 pub fn at_gate() -> Vec<(Vec<u8>, &'static [u16], u32, u32)> {
-    let near_home = t([7, 1], [0, 0]);
-    let mut other_home = near_home.clone();
-    other_home[4] = 1;
     vec![
         (k(), &[0, 7, 4, 0, 3, 0, 3], 0, 32),
-        (near_home.clone(), &[0, 7, 3, 1, 2, 1], 0, 32),
-        (near_home.clone(), &[0, 7, 2, 1, 2], 33, 32),
-        (near_home, &[0, 7, 1, 1], 0, 0),
+        (toward_0(0), &[0, 7, 3, 1, 2, 1], 0, 32),
+        (toward_0(0), &[0, 7, 2, 1, 2], 33, 32),
+        (toward_0(0), &[0, 7, 1, 1], 0, 0),
         (loop_at_home(), &[0, 5, 3, 5, 0, 3], 0, 32),
-        (other_home.clone(), &[0, 7, 4, 1, 2, 1, 2], 0, 32),
-        (other_home, &[0, 7, 2, 1, 2], 0, 0),
+        (toward_0(1), &[0, 7, 4, 1, 2, 1, 2], 0, 32),
+        (toward_0(1), &[0, 7, 2, 1, 2], 0, 0),
     ]
 }
 
@@ -224,5 +229,71 @@ pub fn searched() -> Vec<Searched> {
         (beside_a_loop(), 7, &[(5, &[0, 1, 3, 4, 5, 6, 7])]),
         (far_loop_with_9(), 15, &[(5, &[0]), (6, &[2, 3, 4, 5, 6, 7]), (9, &[8]), (5, &[0]), (6, &[2, 3, 4, 5, 6, 7])]),
         (to_loop([1, 1, 6, 0]), 2, &[(5, &[0]), (6, &[2])]),
+    ]
+}
+
+/// A board, a log and so many words lent for the position sheet; the number, the count of moves done, and the words written.
+pub type Replayed = (Vec<u8>, &'static [u16], usize, u32, u64, &'static [u32]);
+
+/// Request a: replays. Those of bad boards have an odd log and no word lent, so 1 to 9 are seen to come first.
+pub fn replays() -> Vec<Replayed> {
+    let k_263 = || wide_t((263, 0), FREE);
+    let mut rows: Vec<Replayed> = vec![
+        (k(), &[7, 3, 7, HOME], 2, 0, 2, &[0, 0]),
+        (k(), &[7, 3], 2, 0, 1, &[0, 15]),
+        (k(), &[], 2, 0, 0, &[14, 0]),
+        (k(), &[7, HOME], 2, 38, 0, &[14, 0]),
+        (k(), &[7, 3, 7, 0], 2, 38, 1, &[0, 15]),
+        (k(), &[7, 3, 8, HOME, 7, HOME], 2, 38, 1, &[0, 15]),
+        (k(), &[7, 3, 7, HOME, 7, HOME], 3, 38, 2, &[0, 0]),
+        (k(), &[0, 3], 2, 38, 0, &[14, 0]),
+        (k(), &[0, HOME], 2, 38, 0, &[14, 0]),
+        (k(), &[263, 3], 2, 38, 0, &[14, 0]),
+        (k(), &[7, 1], 2, 38, 0, &[14, 0]),
+        (k(), &[7, 0], 2, 38, 0, &[14, 0]),
+        (k(), &[7, 2], 2, 38, 0, &[14, 0]),
+        (k(), &[7, 4], 2, 38, 0, &[14, 0]),
+        (k(), &[7, 65_534], 2, 38, 0, &[14, 0]),
+        (k(), &[7], 2, 37, 0, &[]),
+        (k(), &[7, 3, 7], 2, 37, 0, &[]),
+        (k(), &[7], 1, 36, 0, &[]),
+        (k(), &[7, 3], 1, 36, 0, &[]),
+        (k(), &[], 0, 36, 0, &[]),
+        (k(), &[7, 3], 3, 0, 1, &[0, 15]),
+        (k(), &[7, 3, 7, 0], 3, 38, 1, &[0, 15]),
+        (t([0, 0], [0, 0]), &[], 2, 0, 0, &[0, 0]),
+        (t([0, 0], [0, 0]), &[0, 0], 2, 38, 0, &[0, 0]),
+        (t([7, 0], [9, 1]), &[7, 3], 2, 38, 0, &[14, 19]),
+        (t([7, 0], [9, 1]), &[9, HOME, 7, 3], 2, 0, 2, &[0, 15]),
+        (turn(6, 1), &[5, 4, 6, 1, 6, HOME, 5, 3, 5, 1, 5, HOME], 3, 0, 6, &[0, 0, 0]),
+        (turn(6, 1), &[5, 4, 6, 1, 6, HOME, 5, 3], 3, 0, 4, &[0, 11, 0]),
+        (toward_0(0), &[7, 2], 2, 38, 0, &[15, 0]),
+        (toward_0(0), &[7, HOME], 2, 0, 1, &[0, 0]),
+        (toward_0(1), &[7, HOME], 2, 38, 0, &[15, 0]),
+        (toward_0(1), &[7, 2, 7, HOME], 2, 0, 2, &[0, 0]),
+        (k_263(), &[263, 3], 2, 0, 1, &[0, 527]),
+        (k_263(), &[7, 3], 2, 38, 0, &[526, 0]),
+        (wide_t((65_535, 0), FREE), &[65_535, 3], 2, 0, 1, &[0, 131_071]),
+        (wide_t((65_535, 0), FREE), &[65_535, 3, 65_535, HOME], 2, 0, 2, &[0, 0]),
+        (to_loop([1, 1, 0, 0]), &[5, 2, 5, 1, 5, HOME], 2, 0, 3, &[0, 0]),
+        (to_loop([1, 1, 0, 0]), &[5, 3], 2, 0, 1, &[0, 11]),
+        (to_loop([1, 1, 0, 0]), &[5, 2, 5, 3], 2, 38, 1, &[0, 10]),
+        (to_loop([1, 1, 0, 0]), &[5, 2, 5, 2], 2, 38, 1, &[0, 10]),
+        (loop_at_home(), &[5, 0], 3, 38, 0, &[0, 0, 11]),
+        (loop_at_home(), &[5, HOME], 3, 0, 1, &[0, 0, 0]),
+    ];
+    rows.extend((1..).zip(refused()).map(|(number, board)| -> Replayed { (board, &[7], 0, number, 0, &[]) }));
+    rows
+}
+
+/// Request a: long logs on the turn, with the number, the count of moves done and the words written. Carrier 5 goes round the loop many times, two
+/// moves each time, and then into home in vain or into a word; the last count is more than 16 bits hold.
+pub fn long_replays() -> [(Vec<u16>, u32, u64, [u32; 3]); 4] {
+    let rounds = |times: usize, last: &[u16]| [&[5, 2, 5, 5].repeat(times)[..], last].concat();
+    [
+        (rounds(5_000, &[]), 0, 10_000, [0, 0, 11]),
+        (rounds(5_000, &[5, 1]), 0, 10_001, [11, 0, 0]),
+        (rounds(5_000, &[5, HOME]), 38, 10_000, [0, 0, 11]),
+        (rounds(40_000, &[5, 2]), 0, 80_001, [0, 10, 0]),
     ]
 }

@@ -2,6 +2,7 @@
 
 use crate::board::{Board, Rule};
 use crate::key::{plan_with, verdict, Key};
+use crate::replay::Position;
 use crate::searched::{searched, tries_with};
 use std::collections::{BTreeSet, HashSet};
 
@@ -86,34 +87,17 @@ pub fn key_by_enumeration(rule: Rule, board: &Board) -> Outcome {
 
 /// Whether in every position that single moves reach each of these carriers stands where it stood. Every position is visited.
 pub fn all_positions_keep(board: &Board, carriers: &[u32]) -> bool {
-    type Position = Vec<(u32, u32)>;
-    let first: Position = board.zones.iter().map(|z| (z.carrier, z.heading)).collect();
+    let first = Position::first(board);
     let mut seen: HashSet<Position> = HashSet::from([first.clone()]);
     let mut work = vec![first.clone()];
     while let Some(now) = work.pop() {
-        for z in 0..now.len() {
-            if carriers.contains(&first[z].0) && now[z] != first[z] {
-                return false;
-            }
+        if carriers.iter().any(|&c| now.standing(c) != first.standing(c)) {
+            return false;
         }
-        let mut reach = |next: Position| {
-            if seen.insert(next.clone()) {
-                work.push(next);
-            }
-        };
-        for z in (0..now.len()).filter(|&z| now[z].0 != 0) {
-            let mut left = now.clone();
-            left[z] = (0, 0);
-            let point = board.leave(2 * z + now[z].1 as usize);
-            // At the home gate a carrier goes only into home.
-            if point == board.home {
-                reach(left);
-                continue;
-            }
-            for v in (0..board.words()).filter(|&v| now[v / 2].0 == 0 && board.start(v) == point) {
-                let mut next = left.clone();
-                next[v / 2] = (now[z].0, (v % 2) as u32);
-                reach(next);
+        for next in now.moves(board) {
+            let left = now.clone().after(next);
+            if seen.insert(left.clone()) {
+                work.push(left);
             }
         }
     }

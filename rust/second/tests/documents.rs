@@ -1,9 +1,9 @@
-//! The boards and sheets of documents 01 and 02 by the second implementation.
+//! The boards, sheets and move logs of documents 01 and 02 by the second implementation.
 
-use second::document_01::{k, refused, starred, SHEETS_FOR_K};
+use second::document_01::{k, refused, starred, turn, SHEETS_FOR_K};
 use second::document_02::{at_gate, held, loops_refused, one_blocked, searched, searches, to_loop, turning_loops, two_zones, SHEETS_FOR_LOOP};
-use second::document_02::{versions_refused, wide_carriers, wide_sheets, wide_t};
-use second::{collapse, key, key_by, key_by_enumeration, mark, mark_by, named, read, tries, Board, Key, Rule, Try, Zone};
+use second::document_02::{long_replays, replays, versions_refused, wide_carriers, wide_sheets, wide_t};
+use second::{collapse, key, key_by, key_by_enumeration, mark, mark_by, named, read, replay, tries, Board, Key, Replay, Rule, Try, Zone};
 
 #[test]
 fn boards() {
@@ -91,5 +91,17 @@ fn blocked_alone() {
         let zone = |z: &[u8]| Zone { a: z[0].into(), b: z[1].into(), carrier: z[2].into(), heading: z[3].into() };
         let board = Board { points: bytes[3].into(), home: bytes[4].into(), zones: bytes[6..].chunks(4).map(zone).collect() };
         assert_eq!(named(Rule::HomeGate, &board), [5]);
+    }
+}
+
+#[test]
+fn replayed() {
+    for (row, log, room, number, moves, written) in replays() {
+        for board in read(&row).map_or(vec![row], |said| said.in_each_version()) {
+            assert_eq!(replay(&board, log, room), Replay { number, moves, sheet: written.to_vec() });
+        }
+    }
+    for (log, number, moves, written) in long_replays() {
+        assert_eq!(replay(&turn(0, 0), &log, 3), Replay { number, moves, sheet: written.to_vec() });
     }
 }

@@ -78,9 +78,9 @@ uint32_t nizkabel_mark(const uint8_t *board, size_t board_len, const uint16_t *s
 
 /* Replays a move log from the board's first position. Gives 0 where every move was carried out, and 38 where it stopped, at a move that the
  * rules forbid or of a carrier that isn't out. A carrier goes into a word below 2 x Z whose zone is free and that starts where the carrier
- * leaves its own zone; one that leaves at the home point goes into home and nowhere else, and no other goes there. The first Z words of the position sheet are then the position
- * after the moves done, the words past them stay as they were, and out[0] is the count of these moves. Gives 1 to 9, 36 or 37, tried in this order,
- * where it is turned back; the position sheet then stays as it was, and out[0] is 0. */
+ * leaves its own zone; one that leaves at the home point goes into home and nowhere else, and no other goes there. On 0 and 38 the first Z
+ * words of the position sheet are the position after the moves done, the words past them stay as they were, and out[0] is the count of these
+ * moves. Gives 1 to 9, 36 or 37, tried in this order, where it is turned back; the position sheet then stays as it was, and out[0] is 0. */
 uint32_t nizkabel_replay(const uint8_t *board, size_t board_len, const uint16_t *log, size_t log_len, uint32_t *sheet, size_t sheet_len, uint64_t out[1]);
 
 #ifdef __cplusplus

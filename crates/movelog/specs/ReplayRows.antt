@@ -53,7 +53,7 @@ replayRows =
     onK (7 ∷ 3 ∷ 7 ∷ 65535 ∷ []) 0 2 (0 ∷ 0 ∷ []) ∷
     onK (7 ∷ 3 ∷ []) 0 1 (0 ∷ 15 ∷ []) ∷
     onK [] 0 0 (14 ∷ 0 ∷ []) ∷
-    -- 7 heads for point 1, and the log isn't passed over; once it heads for home it may go only there
+    -- 7 heads for point 1; a forbidden move isn't passed over; once it heads for home it may go only there
     stopsOnK (7 ∷ 65535 ∷ []) ∷
     stopsOnK (7 ∷ 65535 ∷ 7 ∷ 3 ∷ []) ∷
     onK (7 ∷ 3 ∷ 7 ∷ 0 ∷ []) 38 1 (0 ∷ 15 ∷ []) ∷

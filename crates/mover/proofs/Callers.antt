@@ -11,9 +11,9 @@ use Rattle.rules.specs.Tries.{Move}
 use Rattle.rules.specs.SingleMoves.{afterMove}
 use Rattle.rules.proofs.MoveTested.{move-of-test}
 use Rattle.movelog.proofs.ReadyKept.{ready-allowed}
-use Rattle.mover.specs.MoveDone.{isDone, leftOr, MoveDone}
+use Rattle.mover.specs.MoveTried.{isDone, leftOr, MoveTried}
 
-module _ {t : Track} {p q : Position} {m : Move} {done : Bool} (tried : MoveDone t p m done q) where
+module _ {t : Track} {p q : Position} {m : Move} {done : Bool} (tried : MoveTried t p m done q) where
   pub done-leaves : done ≡ true → afterMove t p m ≡ some q
   done-leaves e = go (afterMove t p m) refl (sym (tried .done-is) ∙ e)
     where

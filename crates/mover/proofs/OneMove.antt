@@ -19,10 +19,10 @@ use Rattle.rules.specs.SingleMoves.{movesWho, zoneOut, mayGoFrom, leftIf, after
 use Rattle.rules.proofs.Standing.{zone-stands}
 use Rattle.rules.proofs.MoveTested.{asked, after-into, after-home}
 use Rattle.movelog.specs.Log.{homeWord, moveSaid}
-use Rattle.mover.specs.MoveDone.{ZoneFound, isDone, leftOr, MoveDone}
+use Rattle.mover.specs.MoveTried.{ZoneFound, isDone, leftOr, MoveTried}
 
 -- the outcome of a move by what it leaves
-outcome : (t : Track) (p : Position) (m : Move) (o : Option Position) → afterMove t p m ≡ o → MoveDone t p m (isDone o) (leftOr p o)
+outcome : (t : Track) (p : Position) (m : Move) (o : Option Position) → afterMove t p m ≡ o → MoveTried t p m (isDone o) (leftOr p o)
 outcome t p m o e = record { done-is = sym (ap isDone e); left-is = sym (ap (leftOr p) e) }
 
 move-home : {c w : ℕ} → w ≡ homeWord → moveSaid c w ≡ home c
@@ -43,14 +43,14 @@ says-who c w = go (eqb w homeWord)
     go true = refl
     go false = refl
 
-not-out : (t : Track) (p : Position) (c w : ℕ) → zoneOut p c ≡ none → MoveDone t p (moveSaid c w) false p
+not-out : (t : Track) (p : Position) (c w : ℕ) → zoneOut p c ≡ none → MoveTried t p (moveSaid c w) false p
 unfolding afterMove
 not-out t p c w e = outcome t p (moveSaid c w) none (ap (λ (d : ℕ). afterMoveFrom t p (moveSaid c w) (zoneOut p d)) (says-who c w) ∙ ap (afterMoveFrom t p (moveSaid c w)) e)
 
-pub zero-stays : (t : Track) (p : Position) (c w : ℕ) → c ≡ 0 → MoveDone t p (moveSaid c w) false p
+pub zero-stays : (t : Track) (p : Position) (c w : ℕ) → c ≡ 0 → MoveTried t p (moveSaid c w) false p
 zero-stays t p c w e = not-out t p c w (ap (λ (b : Bool). cond b none (zoneFor p c)) (eq-eqb c 0 e))
 
-pub missing-stays : (t : Track) {p : Position} {c z : ℕ} (w : ℕ) → (c ≡ 0 → ⊥) → ZoneFound p c z → z ≡ length p → MoveDone t p (moveSaid c w) false p
+pub missing-stays : (t : Track) {p : Position} {c z : ℕ} (w : ℕ) → (c ≡ 0 → ⊥) → ZoneFound p c z → z ≡ length p → MoveTried t p (moveSaid c w) false p
 missing-stays t {p} {c} w n f e = not-out t p c w (ap (λ (b : Bool). cond b none (zoneFor p c)) (ne-eqb c 0 n) ∙ f .missing e)
 
 -- a carrier that is out
@@ -68,12 +68,12 @@ module _ (t : Track) {p : Position} {c z : ℕ} (once : Once p) (out : OutIn p c
   freed = retire-set once (out .stands) ∙ ap (λ (y : ℕ). set p y 0) (let e : zoneOf (standing p z) ≡ z = omega arith in e)
 
   module _ {w point : ℕ} (leaves : point ≡ leave t (standing p z)) where
-    pub home-stays : w ≡ homeWord → (point ≡ t .home → ⊥) → MoveDone t p (moveSaid c w) false p
+    pub home-stays : w ≡ homeWord → (point ≡ t .home → ⊥) → MoveTried t p (moveSaid c w) false p
     home-stays e n =
         let elsewhere = ne-eqb (leave t (standing p z)) (t .home) (λ q. n (leaves ∙ q)) in
         rw (move-home {c = c} e) (outcome t p (home c) none (after-home t p once (out .stands) ∙ ap (λ (b : Bool). leftIf b (retire c p)) elsewhere))
 
-    pub home-goes : w ≡ homeWord → point ≡ t .home → MoveDone t p (moveSaid c w) true (set p z 0)
+    pub home-goes : w ≡ homeWord → point ≡ t .home → MoveTried t p (moveSaid c w) true (set p z 0)
     home-goes e q =
         let there = eq-eqb (leave t (standing p z)) (t .home) (sym leaves ∙ q) in
         rw (move-home {c = c} e)
@@ -85,10 +85,10 @@ module _ (t : Track) {p : Position} {c z : ℕ} (once : Once p) (out : OutIn p c
           after-into t p w once (out .stands) ∙ ap (λ (y : ℕ). leftIf (mayGoFrom t p y w) (movedTo p c w)) (sym leaves)
           ∙ ap (λ (y : Bool). leftIf y (movedTo p c w)) (sym tested ∙ e) ∙ ap (λ (q : Position). leftIf x (set q (zoneOf w) (2 * c + headingOf w))) freed
 
-      pub into-stays : b ≡ false → MoveDone t p (moveSaid c w) false p
+      pub into-stays : b ≡ false → MoveTried t p (moveSaid c w) false p
       into-stays e = rw (move-into {c = c} n) (outcome t p (into c w) none (into-left false e))
 
-      pub into-goes : b ≡ true → MoveDone t p (moveSaid c w) true (set (set p z 0) (zoneOf w) (2 * c + headingOf w))
+      pub into-goes : b ≡ true → MoveTried t p (moveSaid c w) true (set (set p z 0) (zoneOf w) (2 * c + headingOf w))
       into-goes e = rw (move-into {c = c} n) (outcome t p (into c w) (some (set (set p z 0) (zoneOf w) (2 * c + headingOf w))) (into-left true e))
 
       -- the zone entered is one of the track

@@ -1,1 +1,1 @@
-pub mod MoveDone
+pub mod MoveTried

@@ -7,23 +7,33 @@ ghost use Rattle.model.specs.Track.{trackOf};
 ghost use Rattle.model.specs.Accepted.{Ready};
 ghost use Rattle.rules.specs.SingleMoves.{mayGoFrom};
 ghost use Rattle.movelog.specs.Log.{moveSaid};
-ghost use Rattle.mover.specs.MoveDone.{ZoneFound, MoveDone};
+ghost use Rattle.mover.specs.MoveTried.{ZoneFound, MoveTried};
 
 // In the place of a word: into home.
 const HOME: u16 = 65535;
 
-// The zone where the carrier stands, or as many as there are zones where it stands in none.
-fn zone_of(position: &[u32], carrier: u32) -> usize
+// The zone where the carrier stands, or as many as there are zones where it stands in none. A move's time is this look, so the loop looks at two
+// zones in each turn.
+fn zone_for(position: &[u32], carrier: u32) -> usize
     ensures { λ r. ⌜ ZoneFound (now (position .entry)) carrier r ⌝ }
 {
     let mut z = 0;
-    while z < position.len() {
+    while z + 1 < position.len() {
         if position[z] / 2 == carrier {
             return z;
         }
-        z += 1;
+        if position[z + 1] / 2 == carrier {
+            return z + 1;
+        }
+        z += 2;
     }
-    z
+    if z == position.len() {
+        return z;
+    }
+    if position[z] / 2 == carrier {
+        return z;
+    }
+    z + 1
 }
 
 // Whether a carrier that leaves its zone at the point may go into word w.
@@ -54,13 +64,13 @@ pub fn carry_out(
     entered: u16,
 ) -> bool
     requires { ⌜ Ready (trackOf head (now ends)) (now position) ⌝ }
-    ensures { λ r. ⌜ MoveDone (trackOf head (now (ends .entry))) (now (position .entry)) (moveSaid carrier entered) r (now (position .exit)) ⌝ }
+    ensures { λ r. ⌜ MoveTried (trackOf head (now (ends .entry))) (now (position .entry)) (moveSaid carrier entered) r (now (position .exit)) ⌝ }
 {
     let number = carrier as u32;
     if number == 0 {
         return false;
     }
-    let zone = zone_of(position, number);
+    let zone = zone_for(position, number);
     if zone == position.len() {
         return false;
     }

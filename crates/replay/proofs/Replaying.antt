@@ -16,7 +16,7 @@ use Rattle.rules.specs.Tries.{Move}
 use Rattle.rules.specs.SingleMoves.{afterMove}
 use Rattle.movelog.specs.Log.{moveSaid, movesSaid}
 use Rattle.movelog.specs.Replay.{ReplayAnswer, replayOn, replayFor}
-use Rattle.mover.specs.MoveDone.{MoveDone}
+use Rattle.mover.specs.MoveTried.{MoveTried}
 use Rattle.mover.proofs.Callers.{done-leaves, forbidden-leaves, done-ready}
 use Rattle.replay.specs.Given.{MovesGiven}
 
@@ -53,7 +53,7 @@ no-pair (c ∷ []) h = refl
 no-pair (c ∷ w ∷ l) h = absurd (omega arith)
 
 module _ {t : Track} {first : Position} {log : List ℕ} {p : Position} {done : ℕ} (g : Replaying t first log p done) where
-  module _ {b : Bool} {q : Position} (pair : 2 * done + 1 < length log) (tried : MoveDone t p (moveSaid (getD log (2 * done) 0) (getD log (2 * done + 1) 0)) b q) where
+  module _ {b : Bool} {q : Position} (pair : 2 * done + 1 < length log) (tried : MoveTried t p (moveSaid (getD log (2 * done) 0) (getD log (2 * done + 1) 0)) b q) where
     abbrev move : Move
     move = moveSaid (getD log (2 * done) 0) (getD log (2 * done + 1) 0)
 

@@ -230,8 +230,8 @@ fn compare_exhaustive(tally: &mut Tally, board: &Board) {
     tally.exhaustive += 1;
 }
 
-/// A board that may be refused: the key, the collapse and the key's own sheet, and an accepted one by exhaustion, with a sheet for every route
-/// of every carrier by the older rule, and every single move.
+/// A board that may be refused: the key, the collapse, the key's own sheet and the moves of its plan, and an accepted one by exhaustion, with a
+/// sheet for every route of every carrier by the older rule, and every single move.
 fn compare_small(tally: &mut Tally, board: &Board) {
     let bytes = board.bytes();
     let accepted = second::read(&bytes).is_ok();
@@ -365,8 +365,8 @@ fn main() {
         println!("too few boards of some kind by their search count: {:?}, small ones {:?}", tally.searched, tally.small_searched);
         std::process::exit(1);
     }
-    if !tally.replays.fair() {
-        println!("too few replays of some kind: {:?}", tally.replays);
+    if !tally.replays.fair() || tally.single_moves < 100_000 {
+        println!("too few replays of some kind: {:?}, single moves {}", tally.replays, tally.single_moves);
         std::process::exit(1);
     }
     println!(

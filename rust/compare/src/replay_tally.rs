@@ -113,7 +113,7 @@ impl ReplayTally {
         let given = |number| self.numbers.get(&number).copied().unwrap_or(0);
         let stopped = |why| self.stopped.get(why).copied().unwrap_or(0);
         let kinds = [self.past_zones, self.many_moves, self.into_loops, self.arrivals, self.full, self.short_and_odd];
-        [0, 36, 37, 38].into_iter().all(|number| 10_000 <= given(number))
+        [0, 36, 37, 38].into_iter().all(|number| 50_000 <= given(number))
             && (1..=9).all(|number| 100 <= given(number))
             && REASONS.iter().all(|why| 1_000 <= stopped(why))
             && kinds.iter().chain(&self.kinds.counts()).all(|&n| 1_000 <= n)

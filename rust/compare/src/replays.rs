@@ -81,7 +81,7 @@ pub fn compare_logs(tally: &mut ReplayTally, random: &mut Random, board: &Board,
     let full = board.zones.iter().all(|z| z.carrier != 0);
     let mut logs = Vec::new();
     let mut compare = |random: &mut Random, log: &[Move]| {
-        // Once in a while with more than a byte counts.
+        // Once in a while more words are lent than a byte can count.
         let room = if random.once_in(64) { 256 + random.below(zones) } else { zones + random.below(3) };
         let lent = Lent::new(random, log.concat(), room);
         let replay = compare_replay(tally, bytes, Some(board), &lent);

@@ -287,7 +287,7 @@ pub fn replays() -> Vec<Replayed> {
 }
 
 /// Request a: long logs on the turn, with the number, the count of moves done and the words written. Carrier 5 goes round the loop many times, two
-/// moves each time, and then into home in vain or into a word; the last count is more than 16 bits hold.
+/// moves each time, and then stays, or goes into home in vain or into a word; the last count is more than 16 bits hold.
 pub fn long_replays() -> [(Vec<u16>, u32, u64, [u32; 3]); 4] {
     let rounds = |times: usize, last: &[u16]| [&[5, 2, 5, 5].repeat(times)[..], last].concat();
     [

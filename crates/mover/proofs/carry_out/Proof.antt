@@ -1,5 +1,5 @@
 -- `mover::carry_out` meets its contract: each return is a case of the move that the pair says.
--- Each is a law of OneMove, by the tests that led to it and the contracts of `zone_of`, `leaving` and `may_go_from`.
+-- Each is a law of OneMove, by the tests that led to it and the contracts of `zone_for`, `leaving` and `may_go_from`.
 use borrow.Author.Needs.{needs}
 use native.Mathlib.Omega.{arith}
 use lib.ListN.{length-set}
@@ -13,20 +13,20 @@ use Rattle.mover.proofs.carry_out.Tie as tie
 abbrev start : tie.Else2 → tie.Start
 start c = c .before .before .before .before .before .before
 
-out : (c : tie.Else2) → OutIn (start c .args .position .now) (start c .args .carrier) (c .before .zone-of .result)
-out c = out-in (c .before .before .before .if1 .left) (c .before .zone-of .ensures) (c .if2 .left)
+out : (c : tie.Else2) → OutIn (start c .args .position .now) (start c .args .carrier) (c .before .zone-for .result)
+out c = out-in (c .before .before .before .if1 .left) (c .before .zone-for .ensures) (c .if2 .left)
 
 returns : tie.Need-returns
 returns c = zero-stays _ _ _ _ (c .if1 .taken)
 
-zone-of-requires : tie.Need-zone-of-requires
-zone-of-requires c κs = search needs
+zone-for-requires : tie.Need-zone-for-requires
+zone-for-requires c κs = search needs
 
 same-length : tie.Need-same-length
 same-length c = search needs
 
 returns-2 : tie.Need-returns-2
-returns-2 c = missing-stays _ _ (c .before .before .before .if1 .left) (c .before .zone-of .ensures) (c .if2 .taken)
+returns-2 c = missing-stays _ _ (c .before .before .before .if1 .left) (c .before .zone-for .ensures) (c .if2 .taken)
 
 mul-heading : tie.Need-mul-heading
 mul-heading c = search needs
@@ -125,7 +125,7 @@ carry-out-spec =
     tie.close
     (tie.spec
     returns
-    zone-of-requires
+    zone-for-requires
     same-length
     returns-2
     mul-heading

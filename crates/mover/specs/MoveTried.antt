@@ -26,6 +26,6 @@ leftOr p none = p
 leftOr p (some q) = q
 
 -- a move that was tried: it was done exactly where the rules allow it, and where they forbid it nothing changed
-pub record MoveDone (t : Track) (p : Position) (m : Move) (done : Bool) (q : Position) : Type 0 where
+pub record MoveTried (t : Track) (p : Position) (m : Move) (done : Bool) (q : Position) : Type 0 where
   pub done-is : done ≡ isDone (afterMove t p m)
   pub left-is : q ≡ leftOr p (afterMove t p m)

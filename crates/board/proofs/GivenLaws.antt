@@ -9,12 +9,12 @@ use lib.ListN.{length, take, replicate, length-append, length-replicate}
 use lib.Seq.{take-append-seam}
 use lib.Dec.{eqb}
 use borrow.Author.Tests.{eq-eqb, ne-eqb, eqb-true}
-use Rattle.model.specs.Reading.{zonesSaid, trackSaid, positionSaid, refusal}
+use Rattle.model.specs.Reading.{Whole, zonesSaid, trackSaid, positionSaid, refusal}
 use Rattle.model.proofs.ReadingLaws.{no-row, in-range}
 use Rattle.board.proofs.Order.{whole}
 use Rattle.board.specs.declared.Board.{Board}
 use Rattle.board.specs.Given.{padded, headSaid, boardSaid, boardRefused, boardOf}
-use Rattle.board.specs.Inner.{ByteAt, Whole}
+use Rattle.board.specs.Inner.{ByteAt}
 
 -- lists made longer by zeros
 

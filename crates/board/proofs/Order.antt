@@ -1,15 +1,16 @@
 -- The rows in rising order: where the rows before one don't hold and it does, its number is the board's.
 -- The definition computes once each test is known.
-use Prim.Native.Nat.{ℕ, _+_, _*_, _≤_}
+use Prim.Native.Nat.{ℕ, _≤_}
 use native.Mathlib.Omega.{arith}
 use mathlib.Core.List.{List}
 use mathlib.Core.Path.{_≡_, refl, sym, _∙_}
 use mathlib.Core.Bool.{Bool, true, false, cond}
 use lib.ListN.{length}
-use borrow.Author.Tests.{eqb-true, ltb-false, not-false}
+use borrow.Author.Tests.{ltb-false}
 use Rattle.model.specs.Lists.{numbersBelow, anyOf}
-use Rattle.model.specs.Reading.{tooShort, wrongLength, wrongVersion, outOfRange, wrongCount, badZone, repeated, underTwo, apart, refusal, lengthSaid, wide, stride, zonesSaid, pointsSaid}
-use Rattle.board.specs.Inner.{Whole, zoneRefusal, linkRefusal}
+use Rattle.model.specs.Reading.{Whole, zoneRefusal, tooShort, wrongLength, wrongVersion, outOfRange, wrongCount, badZone, repeated, underTwo, apart, refusal, zonesSaid, pointsSaid}
+use Rattle.model.proofs.ReadingLaws.{said-length, said-count}
+use Rattle.board.specs.Inner.{linkRefusal}
 
 -- what a function answered is what the definition says
 pub answered : {s t v : Bool} → s ≡ t → s ≡ v → t ≡ v
@@ -104,8 +105,4 @@ module _ (b : List ℕ) where
   six e = ltb-false (length b) 6 e
 
   pub whole : wrongLength b ≡ false → wrongCount b ≡ false → Whole b
-  unfolding wrongLength wrongCount
-  whole e f =
-      let l : lengthSaid b + 2 ≡ length b = eqb-true (lengthSaid b + 2) (length b) (not-false _ e) in
-      let k : lengthSaid b ≡ 4 + stride (wide b) * zonesSaid b = eqb-true (lengthSaid b) (4 + stride (wide b) * zonesSaid b) (not-false _ f) in
-      omega arith
+  whole e f = omega (arith, said-length b e, said-count b f)

@@ -8,7 +8,8 @@ use mathlib.Core.Bool.{Bool, true, false, not, _&&_, _||_}
 use lib.ListN.{length}
 use lib.Dec.{leb, ltb, eqb}
 use borrow.Author.Tests.{lt-ltb, le-ltb, le-leb, lt-leb, eq-eqb, ne-eqb, leb-true, leb-false, eqb-true, eqb-false}
-use Rattle.model.specs.Reading.{wide, stride, wrongLength, wrongVersion, outOfRange, wrongCount, badZone}
+use Rattle.model.specs.Layout.{stride}
+use Rattle.model.specs.Reading.{wide, wrongLength, wrongVersion, outOfRange, wrongCount, badZone}
 use Rattle.board.specs.declared.input.Zone.{Zone}
 use Rattle.board.specs.Inner.{ByteAt, ZoneAt}
 

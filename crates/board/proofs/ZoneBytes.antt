@@ -2,27 +2,16 @@
 -- A zone more than z has room for the zone z.
 use Prim.Native.Nat.{ℕ, suc, _+_, _-_, _*_, _≤_, _<_}
 use native.Mathlib.Omega.{arith}
-use native.Mathlib.Nat.{mul-suc, mul-le-mul, mul-le-mul-left}
+use native.Mathlib.Nat.{add-zero, mul-suc, mul-le-mul, mul-le-mul-left}
 use mathlib.Core.List.{List}
 use mathlib.Core.Path.{_≡_, sym, _∙_, ap, ap₂}
-use mathlib.Core.Bool.{Bool, true, false, cond}
+use mathlib.Core.Bool.{Bool, true, false}
 use lib.ListN.{length}
-use Rattle.model.specs.Reading.{byte, twoBytes, wide, stride, zoneFrom, zonesSaid, carrierIn, headingIn}
-use Rattle.model.proofs.ReadingLaws.{stride-most}
-use Rattle.board.specs.Inner.{ByteAt, Whole, ZoneIn, ZoneAt}
-
-pub five : {w : Bool} → w ≡ true → 5 ≡ stride w
-unfolding stride
-five e = sym (ap (λ (t : Bool). cond t 5 4) e)
-
-pub four : {w : Bool} → w ≡ false → 4 ≡ stride w
-unfolding stride
-four e = sym (ap (λ (t : Bool). cond t 5 4) e)
-
-stride-least : (w : Bool) → 4 ≤ stride w
-unfolding stride
-stride-least true = omega arith
-stride-least false = omega arith
+use Rattle.model.specs.Layout.{stride}
+use Rattle.model.specs.Reading.{Whole, byte, wide, zoneFrom, zonesSaid, endA, headingIn}
+use Rattle.model.proofs.ReadingLaws.{carrier-wide, carrier-narrow}
+use Rattle.model.proofs.LayoutLaws.{five, four, stride-least, stride-most}
+use Rattle.board.specs.Inner.{ByteAt, ZoneIn, ZoneAt}
 
 -- so many zones have few bytes
 pub times-byte : (w : Bool) {n : ℕ} → n < 256 → stride w * n ≤ 1275
@@ -31,10 +20,6 @@ times-byte w {n} l = mul-le-mul (stride-most w) (let g : n ≤ 255 = omega arith
 module _ {b : List ℕ} {w : Bool} {z : ℕ} (I : ZoneIn b w z) where
   stride-is : stride w ≡ stride (wide b)
   stride-is = ap stride (I .version)
-
-  carrier-by : (t : Bool) → w ≡ t → carrierIn b z ≡ cond t (twoBytes b (zoneFrom b z + 2)) (byte b (zoneFrom b z + 2))
-  unfolding carrierIn
-  carrier-by t e = ap (λ (t : Bool). cond t (twoBytes b (zoneFrom b z + 2)) (byte b (zoneFrom b z + 2))) (sym (I .version) ∙ e)
 
   module _ {f : ℕ} (F : f ≡ stride w * z + 6) where
     -- the zone's bytes lie inside the board
@@ -65,14 +50,17 @@ module _ {b : List ℕ} {w : Bool} {z : ℕ} (I : ZoneIn b w z) where
       at-from : (i : ℕ) → byte b (f + i) ≡ byte b (zoneFrom b z + i)
       at-from i = ap (λ (n : ℕ). byte b (n + i)) from-is
 
+      at-first : x ≡ endA b z
+      at-first = A .is ∙ ap (byte b) (from-is ∙ sym (add-zero (zoneFrom b z)))
+
       at-last : (i : ℕ) → i + 1 ≡ stride w → byte b (f + i) ≡ headingIn b z
       at-last i q = at-from i ∙ ap (λ (n : ℕ). byte b (zoneFrom b z + n)) (let k = stride-is in let d : i ≡ stride (wide b) - 1 = omega arith in d)
 
       pub zone-narrow : w ≡ false → ZoneAt b z (record { a = x; b = y; carrier = u; heading = v })
       zone-narrow e = record {
-        a-is = A .is ∙ ap (byte b) from-is;
+        a-is = at-first;
         b-is = B .is ∙ at-from 1;
-        carrier-is = C .is ∙ at-from 2 ∙ sym (carrier-by false e);
+        carrier-is = C .is ∙ at-from 2 ∙ sym (carrier-narrow b z (sym (I .version) ∙ e));
         heading-is = D .is ∙ at-last 3 (four e);
         carrier-small = omega (arith, C .small);
         heading-small = D .small;
@@ -80,11 +68,11 @@ module _ {b : List ℕ} {w : Bool} {z : ℕ} (I : ZoneIn b w z) where
 
       pub zone-wide : w ≡ true → {h : ℕ} → ByteAt b (f + 4) h → ZoneAt b z (record { a = x; b = y; carrier = 256 * u + v; heading = h })
       zone-wide e H = record {
-        a-is = A .is ∙ ap (byte b) from-is;
+        a-is = at-first;
         b-is = B .is ∙ at-from 1;
         carrier-is =
             ap₂ (λ (m n : ℕ). 256 * m + n) (C .is ∙ at-from 2) (D .is ∙ at-from 3 ∙ ap (byte b) (let d : zoneFrom b z + 3 ≡ zoneFrom b z + 2 + 1 = omega arith in d)) ∙
-            sym (carrier-by true e);
+            sym (carrier-wide b z (sym (I .version) ∙ e));
         heading-is = H .is ∙ at-last 4 (five e);
         carrier-small = omega (arith, C .small, D .small);
         heading-small = H .small;

@@ -1,15 +1,14 @@
--- What the reader's inner functions say: of one byte, of a zone's bytes in either version, of two rows at a time, and of the ways and the points
+-- What the reader's inner functions say: of one byte, of a zone's bytes in either version, of rows 8 and 9 at once, and of the ways and the points
 -- where two words start.
 -- Nothing outside this crate speaks of these.
 use Prim.Native.Nat.{ℕ, _*_, _≤_, _<_}
 use mathlib.Core.List.{List, map}
 use mathlib.Core.Path.{_≡_}
-use lib.ListN.{length}
 use mathlib.Core.Bool.{Bool, true, cond}
 use lib.Dec.{leb, eqb}
 use Rattle.model.specs.Lists.{numbersBelow, anyOf, howMany}
 use Rattle.model.specs.Track.{rev}
-use Rattle.model.specs.Reading.{byte, endA, endB, carrierIn, headingIn, wide, zoneFrom, endSaid, pointsSaid, homeSaid, zonesSaid, badZone, repeated, underTwo, apart}
+use Rattle.model.specs.Reading.{Whole, byte, endA, endB, carrierIn, headingIn, wide, endSaid, pointsSaid, homeSaid, zonesSaid, underTwo, apart}
 use Rattle.bits.specs.Sets.{hasBit}
 use Rattle.reach.specs.Ways.{WaysOver}
 use Rattle.board.specs.declared.input.Zone.{Zone}
@@ -18,10 +17,6 @@ use Rattle.board.specs.declared.input.Zone.{Zone}
 pub record ByteAt (b : List ℕ) (i r : ℕ) : Type 0 where
   pub is : r ≡ byte b i
   pub small : r < 256
-
--- what rows 2 and 5 leave: six bytes of the head, and those of each zone
-abbrev pub Whole : List ℕ → Type 0
-Whole b = length b ≡ zoneFrom b (zonesSaid b)
 
 -- z is one of the zones of a whole board, whose carriers have two bytes or not
 pub record ZoneIn (b : List ℕ) (w : Bool) (z : ℕ) : Type 0 where
@@ -42,10 +37,6 @@ pub record ZoneAt (b : List ℕ) (z : ℕ) (r : Zone) : Type 0 where
 -- carrier c stands in a zone before z
 unfoldable pub stoodBefore : List ℕ → ℕ → ℕ → Bool
 stoodBefore b c z = anyOf (λ y. eqb (carrierIn b y) c) (numbersBelow z)
-
--- rows 6 and 7, where none before them holds
-unfoldable pub zoneRefusal : List ℕ → ℕ
-zoneRefusal b = cond (anyOf (badZone b) (numbersBelow (zonesSaid b))) 6 (cond (anyOf (repeated b) (numbersBelow (zonesSaid b))) 7 0)
 
 -- rows 8 and 9, where none before them holds
 unfoldable pub linkRefusal : List ℕ → ℕ

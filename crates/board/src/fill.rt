@@ -5,9 +5,8 @@ use crate::input::zone_at;
 ghost use Prim.Native.Nat.{_≤_};
 ghost use mathlib.Core.Path.{_≡_};
 ghost use lib.ListN.{replicate};
-ghost use Rattle.model.specs.Reading.{zonesSaid, trackSaid, positionSaid};
+ghost use Rattle.model.specs.Reading.{Whole, zonesSaid, trackSaid, positionSaid};
 ghost use Rattle.board.specs.Given.{padded};
-ghost use Rattle.board.specs.Inner.{Whole};
 
 pub fn arrays(bytes: &[u8], ends: &mut [usize], position: &mut [u32])
     requires { ⌜ Whole (now bytes) × (zonesSaid (now bytes) ≤ 96) ⌝ }

@@ -3,7 +3,8 @@
 ghost use Prim.Native.Nat.{_+_, _*_, _≤_, _<_};
 ghost use mathlib.Core.Path.{_≡_};
 ghost use lib.ListN.{length};
-ghost use Rattle.model.specs.Reading.{wide, stride};
+ghost use Rattle.model.specs.Layout.{entryFrom};
+ghost use Rattle.model.specs.Reading.{wide};
 ghost use Rattle.board.specs.Inner.{ByteAt, ZoneIn, ZoneAt};
 
 // A zone as a board says it.
@@ -33,7 +34,7 @@ pub fn is_wide(bytes: &[u8]) -> bool
 // the zones are compiled for each version.
 pub fn zone_from(wide: bool, z: usize) -> usize
     requires { ⌜ z < 256 ⌝ }
-    ensures { λ r. ⌜ r ≡ stride wide * z + 6 ⌝ }
+    ensures { λ r. ⌜ r ≡ entryFrom wide z ⌝ }
 {
     if wide {
         return 5 * z + 6;

@@ -2,9 +2,9 @@
 // they say. `read` has no `requires`; `read_into` asks for arrays of zeros, and fills them.
 mod fill;
 mod head;
-mod input;
+pub mod input;
 mod links;
-mod zones;
+pub mod zones;
 
 use model::Head;
 ghost use mathlib.Core.Path.{_≡_};

@@ -6,8 +6,8 @@ ghost use Prim.Native.Nat.{_*_, _^_, _<_};
 ghost use mathlib.Core.Path.{_≡_};
 ghost use lib.ListN.{replicate};
 ghost use lib.Bits.{bitOr, bitAnd};
-ghost use Rattle.model.specs.Reading.{zonesSaid};
-ghost use Rattle.board.specs.Inner.{Whole, Inside, WaysOf, Doubled, linkRefusal};
+ghost use Rattle.model.specs.Reading.{Whole, zonesSaid};
+ghost use Rattle.board.specs.Inner.{Inside, WaysOf, Doubled, linkRefusal};
 
 // `twice` with point p, if it is in `once`.
 fn add_second(once: u64, twice: u64, p: usize) -> u64

@@ -3,8 +3,8 @@ use crate::input::byte;
 use crate::input::is_wide;
 use crate::input::zone_at;
 ghost use mathlib.Core.Path.{_≡_};
-ghost use Rattle.model.specs.Reading.{badZone};
-ghost use Rattle.board.specs.Inner.{Whole, ZoneIn, stoodBefore, zoneRefusal};
+ghost use Rattle.model.specs.Reading.{Whole, zoneRefusal, badZone};
+ghost use Rattle.board.specs.Inner.{ZoneIn, stoodBefore};
 
 // Row 6, of one zone: an end not below P, heading over 1, or free with heading 1.
 fn bad(bytes: &[u8], wide: bool, z: usize) -> bool

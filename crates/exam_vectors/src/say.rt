@@ -1,7 +1,8 @@
 // The operations, and what they give written out.
+use crate::copy::run_write;
 ghost use Rattle.io.specs.Counts.{Counts};
 
-fn item(n: u64) {
+pub fn item(n: u64) {
     io::write_all(1, b" ");
     io::print_decimal(1, n);
 }
@@ -81,7 +82,7 @@ pub fn bytes_in(n: usize, bytes: &[u8]) -> usize
     bytes.len()
 }
 
-fn nth(numbers: &[u16], i: usize) -> usize {
+pub fn nth(numbers: &[u16], i: usize) -> usize {
     if i < numbers.len() {
         return numbers[i] as usize;
     }
@@ -112,12 +113,13 @@ fn run_replay(bytes: &[u8], numbers: &[u16]) {
     say_replay(bytes, &numbers[1..], &mut sheet[..room]);
 }
 
-// The operation by its first letter: `key`, `collapse`, `replay` or `mark`.
+// The operation by its first letter: `key`, `collapse`, `replay`, `write` or `mark`.
 pub fn run(letter: u8, bytes: &[u8], numbers: &[u16]) {
     match letter {
         b'k' => run_key(bytes, numbers),
         b'c' => run_collapse(bytes, numbers),
         b'r' => run_replay(bytes, numbers),
+        b'w' => run_write(bytes, numbers),
         _ => item(exam::mark(bytes, numbers) as u64),
     }
     io::write_all(1, b"\n");

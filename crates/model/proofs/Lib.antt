@@ -3,11 +3,13 @@ pub mod ListLaws
 pub mod CountLaws
 pub mod AscendingLaws
 pub mod PlaceLaws
+pub mod StoreLaws
 pub mod WordLaws
 pub mod LoopLaws
 pub mod PositionLaws
 pub mod MoveLaws
 pub mod LinkLaws
 pub mod LabelLaws
+pub mod LayoutLaws
 pub mod ReadingLaws
 pub mod ReadingRows

@@ -14,7 +14,8 @@ use Rattle.model.specs.Lists.{numbersBelow, anyOf, allOf, howMany}
 use Rattle.model.specs.Track.{zoneOf, headingOf, start}
 use Rattle.model.specs.Position.{at, Stands, Once}
 use Rattle.model.specs.Labels.{label, parts}
-use Rattle.model.specs.Reading.{byte, Bytes, wide, stride, zoneFrom, lengthSaid, endSaid, pointsSaid, homeSaid, zonesSaid, endA, endB, carrierIn, headingIn, trackSaid, positionSaid, tooShort, wrongLength, wrongVersion, outOfRange, wrongCount, badZone, repeated, underTwo, apart, refusal}
+use Rattle.model.specs.Layout.{lengthOf}
+use Rattle.model.specs.Reading.{byte, Bytes, twoBytes, wide, zoneFrom, lengthSaid, endSaid, pointsSaid, homeSaid, zonesSaid, endA, endB, carrierIn, headingIn, trackSaid, positionSaid, tooShort, wrongLength, wrongVersion, outOfRange, wrongCount, badZone, repeated, underTwo, apart, refusal}
 use Rattle.model.specs.Accepted.{HangsTogether, AcceptedTrack, Laid, heldLimit, Limited, Ready}
 use Rattle.model.proofs.BoolLaws.{both-ways, decided, and-left, and-right, and-both, or-false-left, or-false-right}
 use Rattle.model.proofs.ListLaws.{length-below, any-below-false, below-any, all-below, all-below-false}
@@ -22,6 +23,7 @@ use Rattle.model.proofs.PlaceLaws.{getD-map-below}
 use Rattle.model.proofs.WordLaws.{zone-below}
 use Rattle.model.proofs.LinkLaws.{linked-mono}
 use Rattle.model.proofs.LabelLaws.{parts-linked, linked-parts}
+use Rattle.model.proofs.LayoutLaws.{stride-most}
 
 -- none of the rows 1 to 8 holds
 pub record NoRow (b : List ℕ) : Type 0 where
@@ -132,6 +134,15 @@ module _ {A : Type 0} (b : List ℕ) (x y : A) where
   pub if-refused : (refusal b ≡ 0 → ⊥) → cond (eqb (refusal b) 0) x y ≡ y
   if-refused n = ap (λ (t : Bool). cond t x y) (ne-eqb (refusal b) 0 n)
 
+-- rows 2 and 5: L is the number of bytes after it, and what the entries take
+pub said-length : (b : List ℕ) → wrongLength b ≡ false → lengthSaid b + 2 ≡ length b
+unfolding wrongLength
+said-length b e = eqb-true (lengthSaid b + 2) (length b) (not-false _ e)
+
+pub said-count : (b : List ℕ) → wrongCount b ≡ false → lengthSaid b ≡ lengthOf (wide b) (zonesSaid b)
+unfolding wrongCount
+said-count b e = eqb-true (lengthSaid b) (lengthOf (wide b) (zonesSaid b)) (not-false _ e)
+
 -- row 4
 pub record InRange (b : List ℕ) : Type 0 where
   pub points-least : 2 ≤ pointsSaid b
@@ -239,7 +250,7 @@ module _ (b : List ℕ) where
 
   -- a word starts at end A of its zone, or at end B
   pub said-a : (w : ℕ) → headingOf w ≡ 0 → endSaid b w ≡ endA b (zoneOf w)
-  said-a w e = ap (byte b) (let s : zoneFrom b (w / 2) + w % 2 ≡ zoneFrom b (zoneOf w) = omega arith in s)
+  said-a w e = ap (byte b) (let s : zoneFrom b (w / 2) + w % 2 ≡ zoneFrom b (zoneOf w) + 0 = omega arith in s)
 
   pub said-b : (w : ℕ) → headingOf w ≡ 1 → endSaid b w ≡ endB b (zoneOf w)
   said-b w e = ap (byte b) (let s : zoneFrom b (w / 2) + w % 2 ≡ zoneFrom b (zoneOf w) + 1 = omega arith in s)
@@ -283,7 +294,15 @@ start-in b zones w h = go (heading-cases b w)
     go (inl e) = rw (start-a b w h e) (good .a-in)
     go (inr e) = rw (start-b b w h e) (good .b-in)
 
--- a carrier has one byte or two
+-- a carrier has two bytes in version 2, one in version 1
+pub carrier-wide : (b : List ℕ) (z : ℕ) → wide b ≡ true → carrierIn b z ≡ twoBytes b (zoneFrom b z + 2)
+unfolding carrierIn
+carrier-wide b z e = ap (λ (w : Bool). cond w (twoBytes b (zoneFrom b z + 2)) (byte b (zoneFrom b z + 2))) e
+
+pub carrier-narrow : (b : List ℕ) (z : ℕ) → wide b ≡ false → carrierIn b z ≡ byte b (zoneFrom b z + 2)
+unfolding carrierIn
+carrier-narrow b z e = ap (λ (w : Bool). cond w (twoBytes b (zoneFrom b z + 2)) (byte b (zoneFrom b z + 2))) e
+
 pub carrier-most : (b : List ℕ) → Bytes b → (z : ℕ) → carrierIn b z ≤ 65535
 unfolding carrierIn
 carrier-most b bytes z = cond-most (wide b) _ _ (omega (arith, bytes (zoneFrom b z + 2), bytes (zoneFrom b z + 2 + 1))) (omega (arith, bytes (zoneFrom b z + 2)))
@@ -390,19 +409,11 @@ ready-said b bytes e =
     let a : AcceptedTrack (trackSaid b) = accepted-track b e in
     record { bounded = record { laid = laid-said b n; points-most = a .points-most; zones-most = a .zones-most; ends-count = a .ends-count }; limited = limited-said b n bytes }
 
--- how many bytes a zone has, and so how many an accepted board has
-pub stride-most : (w : Bool) → stride w ≤ 5
-unfolding stride
-stride-most true = omega arith
-stride-most false = omega arith
-
+-- how many bytes an accepted board has
 pub accepted-length : (b : List ℕ) → refusal b ≡ 0 → length b ≤ 486
-unfolding wrongLength wrongCount
 accepted-length b e =
     let n : NoRow b = no-row b e in
-    let l : lengthSaid b + 2 ≡ length b = eqb-true (lengthSaid b + 2) (length b) (not-false _ (n .length-said)) in
-    let k : lengthSaid b ≡ 4 + stride (wide b) * zonesSaid b = eqb-true (lengthSaid b) (4 + stride (wide b) * zonesSaid b) (not-false _ (n .zone-count)) in
-    omega (arith, mul-le-mul (stride-most (wide b)) (in-range b (n .range) .zones-most))
+    omega (arith, said-length b (n .length-said), said-count b (n .zone-count), mul-le-mul (stride-most (wide b)) (in-range b (n .range) .zones-most))
 
 -- 9 is given only where some two points are not linked
 pub apart-nine : (b : List ℕ) → refusal b ≡ 9 → HangsTogether (trackSaid b) → ⊥

@@ -4,7 +4,8 @@ use mathlib.Core.List.{List, [], _∷_}
 use mathlib.Core.Path.{_≡_, refl}
 use Rattle.model.specs.Labels.{parts, joinZones, joinPoints}
 use Rattle.model.specs.Position.{Position}
-use Rattle.model.specs.Reading.{trackSaid, positionSaid, stride, carrierIn, refusal, tooShort, wrongLength, wrongVersion, outOfRange, wrongCount, badZone, repeated, underTwo, apart}
+use Rattle.model.specs.Layout.{stride}
+use Rattle.model.specs.Reading.{trackSaid, positionSaid, carrierIn, refusal, tooShort, wrongLength, wrongVersion, outOfRange, wrongCount, badZone, repeated, underTwo, apart}
 
 -- what a board gives: its refusal, the ends of its zones and its position
 pub record Read : Type 0 where

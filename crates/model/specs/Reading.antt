@@ -1,18 +1,16 @@
 -- The board in bytes, in version 1 or 2: the refusals 1 to 9 in rising order, or a track with a first position. Versions differ in where the
--- bytes of a zone are and in how many a carrier has; what is read of them here is one form, and nothing else speaks of a version.
-use Prim.Native.Nat.{ℕ, _+_, _-_, _*_, _/_, _%_, _<_}
+-- bytes of a zone are and in how many a carrier has (Layout.antt); what is read of them is one form, and nothing else that is read speaks of a version.
+use Prim.Native.Nat.{ℕ, _+_, _*_, _/_, _%_, _<_}
 use mathlib.Core.List.{List, map}
+use mathlib.Core.Path.{_≡_}
 use mathlib.Core.Bool.{Bool, true, cond, not, _&&_, _||_}
 use lib.ListN.{length, getD}
 use lib.Dec.{leb, ltb, eqb}
 use Rattle.model.specs.Lists.{numbersBelow, anyOf, allOf, howMany}
+use Rattle.model.specs.Layout.{lengthOf, entryFrom, endPlace, carrierPlace, headingPlace}
 use Rattle.model.specs.Track.{Track}
 use Rattle.model.specs.Position.{Position}
 use Rattle.model.specs.Labels.{label, parts}
-
--- how many bytes a zone has, by whether a carrier has two: end A, end B, the carrier, the heading
-unfoldable pub stride : Bool → ℕ
-stride wide = cond wide 5 4
 
 module _ (b : List ℕ) where
   abbrev pub byte : ℕ → ℕ
@@ -48,24 +46,23 @@ module _ (b : List ℕ) where
 
   -- where the bytes of a zone begin
   abbrev pub zoneFrom : ℕ → ℕ
-  zoneFrom z = stride wide * z + 6
+  zoneFrom z = entryFrom wide z
 
   abbrev pub endA : ℕ → ℕ
-  endA z = byte (zoneFrom z)
+  endA z = byte (zoneFrom z + endPlace 0)
 
   abbrev pub endB : ℕ → ℕ
-  endB z = byte (zoneFrom z + 1)
+  endB z = byte (zoneFrom z + endPlace 1)
 
   unfoldable pub carrierIn : ℕ → ℕ
-  carrierIn z = cond wide (twoBytes (zoneFrom z + 2)) (byte (zoneFrom z + 2))
+  carrierIn z = cond wide (twoBytes (zoneFrom z + carrierPlace)) (byte (zoneFrom z + carrierPlace))
 
-  -- the last byte of the zone
   abbrev pub headingIn : ℕ → ℕ
-  headingIn z = byte (zoneFrom z + (stride wide - 1))
+  headingIn z = byte (zoneFrom z + headingPlace wide)
 
   -- the point where the word w starts
   abbrev pub endSaid : ℕ → ℕ
-  endSaid w = byte (zoneFrom (w / 2) + w % 2)
+  endSaid w = byte (zoneFrom (w / 2) + endPlace (w % 2))
 
   -- the track and the first position that the bytes say
   unfoldable pub trackSaid : Track
@@ -97,7 +94,11 @@ module _ (b : List ℕ) where
 
   -- row 5: L isn't 4 + 4 × Z in version 1, 4 + 5 × Z in version 2
   unfoldable pub wrongCount : Bool
-  wrongCount = not (eqb lengthSaid (4 + stride wide * zonesSaid))
+  wrongCount = not (eqb lengthSaid (lengthOf wide zonesSaid))
+
+  -- what rows 2 and 5 leave: as many bytes as the head and the entries have
+  abbrev pub Whole : Type 0
+  Whole = length b ≡ zoneFrom zonesSaid
 
   -- row 6, of one zone: an end not below P, heading over 1, or a free zone with heading 1. Equal ends are allowed.
   unfoldable pub badZone : ℕ → Bool
@@ -110,6 +111,10 @@ module _ (b : List ℕ) where
   -- row 7, of one zone: its carrier stands in an earlier zone too
   unfoldable pub repeated : ℕ → Bool
   repeated z = not (eqb (carrierIn z) 0) && anyOf (λ y. eqb (carrierIn y) (carrierIn z)) (numbersBelow z)
+
+  -- rows 6 and 7 at once, where none before them holds
+  unfoldable pub zoneRefusal : ℕ
+  zoneRefusal = cond (anyOf badZone (numbersBelow zonesSaid)) 6 (cond (anyOf repeated (numbersBelow zonesSaid)) 7 0)
 
   -- row 8, of one point: another than home, and under two zones. A zone counts once for each of its ends at the point, so a turning loop twice.
   unfoldable pub underTwo : ℕ → Bool

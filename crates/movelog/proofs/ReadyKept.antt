@@ -1,6 +1,7 @@
--- A move that the rules allow leaves a position that is ready for what works on positions, so another move can follow.
--- It leaves a laid one, and no zone holds another number than before but the one entered, which holds the carrier's.
+-- A move that the rules allow leaves a position that is ready for what works on positions, so another move can follow; and so do moves carried out in
+-- turn. It leaves a laid one, and no zone holds another number than before but the one entered, which holds the carrier's.
 use Prim.Native.Nat.{ℕ, _+_, _*_, _/_, _<_}
+use mathlib.Core.List.{List}
 use mathlib.Core.Path.{_≡_, refl, _∙_, ap}
 use mathlib.Core.Logic.{_⊎_, inl, inr}
 use mathlib.Core.Bool.{Bool, true, false}
@@ -14,6 +15,7 @@ use Rattle.model.proofs.PositionLaws.{without-cases}
 use Rattle.model.proofs.MoveLaws.{movedTo, at-moved-here, at-moved-other}
 use Rattle.rules.specs.Tries.{Move, Allowed, enters, arrives}
 use Rattle.order.proofs.AllMoves.{allowed-laid}
+use Rattle.movelog.specs.CarriedOut.{CarriedOut, none-left, next}
 
 limited-retire : (c : ℕ) (p : Position) → Limited p → Limited (retire c p)
 limited-retire c p limited z = go (without-cases (eqb c) p z)
@@ -34,6 +36,10 @@ limited-moved t {p} laid limited {c} {u} {w} s below z = go (eqb z (zoneOf w)) r
 limited-allowed : {t : Track} {p q : Position} {m : Move} → Laid t p → Limited p → Allowed t p m q → Limited q
 limited-allowed {t} laid limited (enters u s elsewhere below free touches) = limited-moved t laid limited s below
 limited-allowed {p = p} laid limited (arrives {c} u s e) = limited-retire c p limited
+
+pub limited-carried : {t : Track} {p q : Position} {ms : List Move} → Laid t p → Limited p → CarriedOut t p ms q → Limited q
+limited-carried laid limited none-left = limited
+limited-carried laid limited (next a c) = limited-carried (allowed-laid laid a) (limited-allowed laid limited a) c
 
 pub ready-allowed : {t : Track} {p q : Position} {m : Move} → Ready t p → Allowed t p m q → Ready t q
 ready-allowed ready a =

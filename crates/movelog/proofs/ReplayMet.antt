@@ -21,6 +21,7 @@ use Rattle.demands.proofs.NamedMet.{named-right}
 use Rattle.movelog.specs.CarriedOut.{CarriedOut, none-left, next, StopsAfter, here, later}
 use Rattle.movelog.specs.Replay.{ReplayAnswer, oneMore, replayOn, replayFor}
 use Rattle.movelog.specs.ReplayRight.{ReplayRight}
+use Rattle.movelog.proofs.ReadyKept.{limited-carried}
 use Rattle.movelog.proofs.CarriedLaws.{carried-moves, stops-carried, carried-one, stops-one, carried-or-stops}
 
 record AllDone (t : Track) (p : Position) (ms : List Move) (a : ReplayAnswer) : Type 0 where
@@ -69,6 +70,7 @@ module _ {t : Track} {p : Position} {ms : List Move} {a : ReplayAnswer} (laid : 
         one-stop = λ n r s. one-stop o s;
         moved = moved;
         laid = moves-laid laid moved;
+        limited = λ limited. limited-carried laid limited (done-moves o);
         still = λ full c w blocked s. named-right t p laid .still full (take (a .moves) ms) (a .shown) moved c w (blocked-named t p laid blocked) s;
       }
     where

@@ -6,7 +6,7 @@ use mathlib.Core.Logic.{_⊎_, _↔_}
 use lib.ListN.{length, take}
 use Rattle.model.specs.Track.{Track}
 use Rattle.model.specs.Position.{Position, Stands}
-use Rattle.model.specs.Accepted.{Laid}
+use Rattle.model.specs.Accepted.{Laid, Limited}
 use Rattle.rules.specs.Routes.{Blocked}
 use Rattle.rules.specs.Tries.{Move, Moves}
 use Rattle.demands.specs.Demands.{Full}
@@ -28,7 +28,8 @@ pub record ReplayRight (t : Track) (p : Position) (ms : List Move) (number moves
   pub one-stop : (n : ℕ) (r : Position) → StopsAfter t p ms n r → (n ≡ moves) × (r ≡ q)
   -- the moves done, as a list of single moves, lead to the same position
   pub moved : Moves t p (take moves ms) q
-  -- what is shown is laid on the track
+  -- what is shown is laid on the track, and no word of it is over the limit, where none was at first
   pub laid : Laid t q
+  pub limited : Limited p → Limited q
   -- demand 3 of it: with every zone held at first, each blocked carrier is shown in its zone with its heading
   pub still : Full t p → (c w : ℕ) → Blocked t p c → Stands p c w → Stands q c w

@@ -5,7 +5,8 @@ use mathlib.Core.Path.{_≡_}
 use lib.ListN.{length}
 use Rattle.model.specs.Labels.{parts, joinZones, joinPoints}
 use Rattle.model.specs.Lists.{overwritten}
-use Rattle.model.specs.Reading.{refusal, tooShort, wrongLength, wrongVersion, outOfRange, wrongCount, badZone, repeated, underTwo, apart, trackSaid, positionSaid, stride, carrierIn}
+use Rattle.model.specs.Layout.{stride}
+use Rattle.model.specs.Reading.{refusal, tooShort, wrongLength, wrongVersion, outOfRange, wrongCount, badZone, repeated, underTwo, apart, trackSaid, positionSaid, carrierIn}
 use Rattle.rules.specs.Key.{zoneFor}
 use Rattle.rules.specs.SingleMoves.{afterMove}
 use Rattle.rules.specs.Starred.{boardT, turnWith}

@@ -4,6 +4,7 @@
 ghost use lib.ListN.{getD};
 ghost use Rattle.exam.specs.Operations.{KeyPromise, CollapsePromise, MarkPromise};
 ghost use Rattle.replay.specs.Operation.{ReplayPromise};
+ghost use Rattle.writer.specs.Operation.{WritePromise};
 
 // The key of the board: out[0] is the count of words in the plan, out[1] the count of carriers in the list, out[2] the search count.
 #[no_mangle]
@@ -56,4 +57,20 @@ pub extern "C" fn nizkabel_replay(
     let moves = replay.moves as u64;
     *out = [moves];
     replay.number
+}
+
+// The fair copy of the board with a position sheet: out[0] is the count of bytes written.
+#[no_mangle]
+pub extern "C" fn nizkabel_write(
+    board: &[u8],
+    sheet: &[u32],
+    copy: &mut [u8],
+    out: &mut [u32; 1],
+) -> u32
+    ensures { λ r. ⌜ WritePromise (now (board .entry)) (now (sheet .entry)) (now (copy .entry)) r (getD (now (out .exit)) 0 0) (now (copy .exit)) ⌝ }
+{
+    let written = writer::write(board, sheet, copy);
+    let count = written.count as u32;
+    *out = [count];
+    written.number
 }

@@ -4,7 +4,8 @@ use mathlib.Core.Path.{_≡_, refl}
 use mathlib.Core.List.{[], _∷_, map}
 use lib.ListN.{replicate}
 use Rattle.model.specs.Labels.{parts, joinZones, joinPoints}
-use Rattle.model.specs.Reading.{refusal, tooShort, wrongLength, wrongVersion, outOfRange, wrongCount, badZone, repeated, underTwo, apart, trackSaid, positionSaid, stride, carrierIn}
+use Rattle.model.specs.Layout.{stride}
+use Rattle.model.specs.Reading.{refusal, tooShort, wrongLength, wrongVersion, outOfRange, wrongCount, badZone, repeated, underTwo, apart, trackSaid, positionSaid, carrierIn}
 use Rattle.rules.specs.Search.{leastFrom, wordsTo, goalIn}
 use Rattle.rules.specs.Starred.{boardT}
 use Rattle.rules.specs.Table.{boardK}

@@ -1,21 +1,14 @@
 -- Words put at the end of the queue's arrays: what is still to come decides what the arrays hold at the end.
 -- Stores go one by one (`sets` of lib.Seq), so one word more is one step, and several are several steps.
-use Prim.Native.Nat.{ℕ, suc, _+_, _-_, _≤_}
+use Prim.Native.Nat.{ℕ, suc, _+_, _-_}
 use mathlib.Core.Path.{_≡_, refl, sym, _∙_, ap, ap₂}
-use mathlib.Core.List.{List, [], _∷_, _++_, map, map-append, append-assoc}
+use mathlib.Core.List.{List, [], _∷_, _++_, map, map-append}
 use native.Mathlib.Numerals.{add-one}
 use native.Mathlib.Omega.{arith}
-use lib.ListN.{length, set, take, drop, length-set, length-append, length-map}
-use lib.Seq.{sets, length-sets, sets-eq}
-use Rattle.model.specs.Lists.{overwrittenAt}
+use lib.ListN.{length, set, length-set, length-append, length-map}
+use lib.Seq.{sets, length-sets}
+use Rattle.model.proofs.StoreLaws.{sets-append, overwritten-sets}
 use Rattle.queue.specs.Offers.{QueueRoom, Stored}
-
-sets-append : (l : List ℕ) (i : ℕ) (xs ys : List ℕ) → sets l i (xs ++ ys) ≡ sets (sets l i xs) (i + length xs) ys
-sets-append l i [] ys = ap (λ (k : ℕ). sets l k ys) (omega arith)
-sets-append l i (x ∷ xs) ys = sets-append (set l i x) (suc i) xs ys ∙ ap (λ (k : ℕ). sets (sets (set l i x) (suc i) xs) k ys) (omega arith)
-
-overwritten-sets : (l : List ℕ) (i : ℕ) (vs : List ℕ) → i + length vs ≤ length l → sets l i vs ≡ overwrittenAt i vs l
-overwritten-sets l i vs h = sets-eq vs l i h ∙ append-assoc (take i l) vs (drop (i + length vs) l)
 
 -- `left` is still to be stored from n on; the arrays then are as with `all` stored from `found` on at the start
 pub record Filling (i n : ℕ) (left words froms : List ℕ) (found : ℕ) (all words₀ froms₀ : List ℕ) : Type 0 where

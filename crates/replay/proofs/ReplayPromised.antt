@@ -44,6 +44,7 @@ replay-turned-back b log sheet {r} e n =
       given = record { number-is = rw a m; moves-is = rw a; sheet-is = rw a };
       past = refl;
       right = λ d. absurd (n (m ∙ d .accepted));
+      limited = λ d. absurd (n (m ∙ d .accepted));
       only = λ o. absurd (other o);
     }
   where
@@ -84,13 +85,15 @@ pub replay-promised : {b log sheet sheet′ : List ℕ} {r : Board} {number move
 replay-promised {b} {log} {sheet} {sheet′} {r} {number} {moves} small s given =
     let t = trackSaid b in
     let p = positionSaid b in
-    let laid = ready-said b small (s .accepted) .bounded .laid in
+    let ready = ready-said b small (s .accepted) in
+    let laid = ready .bounded .laid in
     let same = ap₂ (λ (u : Track) (q : Position). replayIn u q log (length sheet)) (s .track) (s .position) in
     let inner : ReplayGiven (replayIn t p log (length sheet)) sheet number moves sheet′ = subst (λ (a : ReplayAnswer). ReplayGiven a sheet number moves sheet′) same given in
     record {
       given = subst (λ (a : ReplayAnswer). ReplayGiven a sheet number moves sheet′) (sym (of-read b log (length sheet) (s .accepted))) inner;
       past = ap (drop (t .zones)) (inner .sheet-is) ∙ past-lent t p log (length sheet) laid sheet;
       right = λ d. shown-right log sheet laid (d .room) (d .pairs) inner;
+      limited = λ d. shown-right log sheet laid (d .room) (d .pairs) inner .limited (ready .limited);
       only = λ o. whole (only-whole t p log (length sheet) (by (inner .number-is) o));
     }
   where

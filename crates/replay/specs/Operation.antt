@@ -4,6 +4,7 @@ use mathlib.Core.List.{List}
 use mathlib.Core.Path.{_≡_}
 use mathlib.Core.Logic.{_⊎_}
 use lib.ListN.{length, take, drop}
+use Rattle.model.specs.Accepted.{Limited}
 use Rattle.model.specs.Reading.{refusal, trackSaid, positionSaid}
 use Rattle.movelog.specs.Log.{movesSaid}
 use Rattle.movelog.specs.Replay.{replayOf}
@@ -23,5 +24,7 @@ pub record ReplayPromise (b log sheet : List ℕ) (number moves : ℕ) (sheet′
   pub past : drop (trackSaid b .zones) sheet′ ≡ drop (trackSaid b .zones) sheet
   -- on a call that meets none of 1 to 9, 36 and 37, in relations alone: the sheet's first Z words show where the moves done lead
   pub right : Replayable b log (length sheet) → ReplayRight (trackSaid b) (positionSaid b) (movesSaid log) number moves (take (trackSaid b .zones) sheet′)
+  -- no word that is shown is over the limit
+  pub limited : Replayable b log (length sheet) → Limited (take (trackSaid b .zones) sheet′)
   -- and 0 and 38 are given on such calls alone
   pub only : (number ≡ 0) ⊎ (number ≡ 38) → Replayable b log (length sheet)

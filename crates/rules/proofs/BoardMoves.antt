@@ -8,7 +8,8 @@ use lib.ListN.{length}
 use lib.Dec.{T, ltb, ltb→lt, lit<}
 use Rattle.model.specs.Track.{Track, zoneOf, headingOf}
 use Rattle.model.specs.Position.{Position, at, Stands}
-use Rattle.model.specs.Reading.{trackSaid, positionSaid, stride, carrierIn}
+use Rattle.model.specs.Layout.{stride}
+use Rattle.model.specs.Reading.{trackSaid, positionSaid, carrierIn}
 use Rattle.rules.specs.Tries.{into, Allowed, UngatedAllowed, enters, arrives, Moved, Moves}
 use Rattle.rules.specs.Starred.{boardT, turnWith, turnMoves}
 use Rattle.rules.specs.Table.{boardK}

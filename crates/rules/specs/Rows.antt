@@ -5,7 +5,8 @@ use Prim.Native.Nat.{ℕ}
 use mathlib.Core.List.{List, [], map}
 use mathlib.Core.Path.{_≡_}
 use Rattle.model.specs.Labels.{parts, joinZones, joinPoints}
-use Rattle.model.specs.Reading.{refusal, tooShort, wrongLength, wrongVersion, outOfRange, wrongCount, badZone, repeated, underTwo, apart, trackSaid, positionSaid, stride, carrierIn}
+use Rattle.model.specs.Layout.{stride}
+use Rattle.model.specs.Reading.{refusal, tooShort, wrongLength, wrongVersion, outOfRange, wrongCount, badZone, repeated, underTwo, apart, trackSaid, positionSaid, carrierIn}
 use Rattle.rules.specs.Search.{leastFrom, wordsTo, goalIn}
 use Rattle.rules.specs.Key.{KeyAnswer, turnedBack, ungatedSteps, keyOf, keyOfBy, keyInBy, keyFor, keyForBy, namedBy, runBy, runForBy, firstToGoBy, leastRouteBy, zoneFor, nexts, nextsBy, planWords}
 use Rattle.rules.specs.SearchCount.{foundFrom, reachedBy, triedBy, triesForBy, triesBy, tries, searchedBy, searched}

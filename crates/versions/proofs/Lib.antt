@@ -1,4 +1,1 @@
-pub mod Fives
-pub mod WideBytes
-pub mod WideRows
 pub mod OneKey

@@ -1,30 +1,21 @@
 -- A board in both versions gets one key (request i of document 02): the same board in version 2 is accepted and says the same, and boards that
 -- say the same get the same answers. Nothing past what a board says depends on its version.
-use Prim.Native.Nat.{ℕ, _+_, _*_, _/_, _%_}
-use mathlib.Core.List.{List, [], _∷_, map, flatten}
+use Prim.Native.Nat.{ℕ}
+use mathlib.Core.Bool.{true}
+use mathlib.Core.List.{List}
 use mathlib.Core.Path.{_≡_}
-use Rattle.model.specs.Lists.{numbersBelow}
-use Rattle.model.specs.Reading.{Bytes, versionSaid, pointsSaid, homeSaid, zonesSaid, endA, endB, carrierIn, headingIn, trackSaid, positionSaid, refusal}
+use Rattle.model.specs.Reading.{Bytes, versionSaid, trackSaid, positionSaid, refusal}
 use Rattle.rules.specs.Key.{keyOf}
 use Rattle.rules.specs.SearchCount.{searched}
 use Rattle.rules.specs.Collapse.{collapseOf}
 use Rattle.rules.specs.Sheet.{markOf}
 use Rattle.movelog.specs.Replay.{replayOf}
+use Rattle.faircopy.specs.BoardBytes.{boardBytes}
+use Rattle.faircopy.specs.Write.{writeOf}
 
-module _ (b : List ℕ) where
-  -- the five bytes of a zone in version 2: its ends, its carrier in two bytes, big-endian, and the heading
-  abbrev pub wideZone : ℕ → List ℕ
-  wideZone z = endA b z ∷ endB b z ∷ carrierIn b z / 256 ∷ carrierIn b z % 256 ∷ headingIn b z ∷ []
-
-  -- L in version 2
-  abbrev pub wideLength : ℕ
-  wideLength = 4 + 5 * zonesSaid b
-
-  -- the same board in version 2
-  unfoldable pub inVersion2 : List ℕ
-  inVersion2 =
-      wideLength / 256 ∷ wideLength % 256 ∷ 2 ∷ pointsSaid b ∷ homeSaid b ∷ zonesSaid b ∷
-      flatten (map wideZone (numbersBelow (zonesSaid b)))
+-- the same board in version 2
+unfoldable pub inVersion2 : List ℕ → List ℕ
+inVersion2 b = boardBytes true (trackSaid b) (positionSaid b)
 
 -- two boards say the same track and the same position
 pub record SaySame (b d : List ℕ) : Type 0 where
@@ -38,13 +29,14 @@ pub record SameInVersion2 (b d : List ℕ) : Type 0 where
   pub same : SaySame b d
   pub bytes : Bytes b → Bytes d
 
--- key, collapse, mark and replay answer both boards alike, for every room, every sheet and every log, and their search count is one
+-- key, collapse, mark, replay and write answer both boards alike, for every room, every sheet and every log, and their search count is one
 pub record SameAnswers (b d : List ℕ) : Type 0 where
   pub key : (planRoom listRoom : ℕ) → keyOf b planRoom listRoom ≡ keyOf d planRoom listRoom
   pub searched : searched (trackSaid b) (positionSaid b) ≡ searched (trackSaid d) (positionSaid d)
   pub collapse : (listRoom : ℕ) → collapseOf b listRoom ≡ collapseOf d listRoom
   pub mark : (sheet : List ℕ) → markOf b sheet ≡ markOf d sheet
   pub replay : (log : List ℕ) (sheetRoom : ℕ) → replayOf b log sheetRoom ≡ replayOf d log sheetRoom
+  pub write : (sheet : List ℕ) (copyRoom : ℕ) → writeOf b sheet copyRoom ≡ writeOf d sheet copyRoom
 
 -- of every accepted board, and so of every one of version 1
 abbrev pub InBothVersions : Type 0

@@ -70,6 +70,14 @@ fn agree_on_replay(board: &[u8], log: &[u16]) {
     assert_eq!(sheet, port_sheet);
 }
 
+fn agree_on_write(board: &[u8], sheet: &[u32]) {
+    let (mut copy, mut port_copy) = ([1u8; 487], [1u8; 487]);
+    let write = nizkabel::write(board, sheet, &mut copy);
+    assert_eq!((write.number, write.bytes), (0, board.len()));
+    assert_eq!((write.number, write.bytes), port::write(board, sheet, &mut port_copy));
+    assert_eq!(copy, port_copy);
+}
+
 fn group(name: &str, boards: &[Board], rounds: usize) {
     let bytes: Vec<Vec<u8>> = boards.iter().map(|b| b.bytes()).collect();
     let mut plan = vec![0u16; 96 * 194];
@@ -99,6 +107,8 @@ fn group(name: &str, boards: &[Board], rounds: usize) {
     row(name, "mark", &mark, &[("port", &mark_port), ("second", &mark_second)]);
     let logs: Vec<Vec<u16>> = keys.iter().map(|key| logs::of_plan(&key.plan).concat()).collect();
     replays(name, &bytes.iter().zip(&logs).collect::<Vec<_>>(), 10 * rounds);
+    let positions: Vec<Vec<u32>> = boards.iter().map(|b| b.sheet()).collect();
+    writes(name, &bytes.iter().zip(&positions).collect::<Vec<_>>(), 10 * rounds);
     #[cfg(before)]
     if bytes.iter().all(|b| b[2] == 1) {
         before::group(name, &pairs, rounds);
@@ -128,6 +138,19 @@ fn replays(name: &str, pairs: &[(&Vec<u8>, &Vec<u16>)], rounds: usize) {
     let few = &pairs[..pairs.len().min(4)];
     let [replay_second] = times(1, few.len(), [&mut || few.iter().for_each(|(b, log)| { black_box(second::replay(black_box(b), log, 96)); })]);
     row(name, "replay", &replay, &[("port", &replay_port), ("second", &replay_second)]);
+}
+
+/// The row of the writer, of boards with their own positions.
+fn writes(name: &str, pairs: &[(&Vec<u8>, &Vec<u32>)], rounds: usize) {
+    pairs.iter().for_each(|(b, sheet)| agree_on_write(b, sheet));
+    let (mut copy, mut copy2) = ([0u8; 486], [0u8; 486]);
+    let [write, write_port] = times(rounds, pairs.len(), [
+        &mut || pairs.iter().for_each(|(b, sheet)| { black_box(nizkabel::write(black_box(b), sheet, &mut copy)); }),
+        &mut || pairs.iter().for_each(|(b, sheet)| { black_box(port::write(black_box(b), sheet, &mut copy2)); }),
+    ]);
+    let few = &pairs[..pairs.len().min(4)];
+    let [write_second] = times(1, few.len(), [&mut || few.iter().for_each(|(b, sheet)| { black_box(second::write(black_box(b), sheet, 486)); })]);
+    row(name, "write", &write, &[("port", &write_port), ("second", &write_second)]);
 }
 
 /// So many carriers out on 90 zones, and logs of 4,000 moves, so a move takes a 4,000th of the time. They go into home only where nothing else is
@@ -175,6 +198,11 @@ fn main() {
         let mut sheet = vec![0; room];
         assert_eq!(port::replay(&board, log, &mut sheet), (number, moves));
         assert!(sheet.starts_with(written));
+    }
+    for (board, sheet, room, number, written) in second::document_02::copies() {
+        let mut copy = vec![0; room];
+        assert_eq!(port::write(&board, sheet, &mut copy), (number, written.len()));
+        assert!(copy.starts_with(&written));
     }
     println!("ratios of the proved library's time to each other one's");
     let small: Vec<Board> = (0..2000).map(|_| boards::accepted(&mut random, 4, 6, 3, Loops::None)).collect();

@@ -1,7 +1,10 @@
-//! Compares the proved library with the second implementation on many boards, sheets and move logs, whole: numbers, lengths, counts, every word of
-//! plan, list and position sheet, and canaries past what may be written. Ends with status 1 at the first difference.
+//! Compares the proved library with the second implementation on many boards, sheets, move logs and position sheets, whole: numbers, lengths, counts,
+//! every word of plan, list and position sheet, every byte of a copy, and canaries past what may be written. Ends with status 1 at the first difference.
 
 mod blocked;
+mod copies;
+mod copy_tally;
+mod faults;
 mod gate;
 mod loops;
 mod replay_tally;
@@ -13,6 +16,8 @@ use blocked::BlockedTally;
 use compare::boards::{self, Loops, Numbers};
 use compare::random::Random;
 use compare::{logs, sheets};
+use copies::{compare_copies, compare_copy, compare_each_zone, compare_every_sheet, Wanted};
+use copy_tally::CopyTally;
 use gate::GateTally;
 use loops::LoopTally;
 use replay_tally::ReplayTally;
@@ -41,6 +46,8 @@ struct Tally {
     small_searched: SearchTally,
     replays: ReplayTally,
     single_moves: usize,
+    copies: CopyTally,
+    first_faults: usize,
     verdicts: std::collections::BTreeMap<u32, usize>,
     marks: std::collections::BTreeMap<u32, usize>,
 }
@@ -122,11 +129,12 @@ fn compare_run_on(tally: &mut Tally, board: &Board, bytes: &[u8], sheet: &[u16])
 }
 
 /// The library says the same of a board in both versions, where both have room for its numbers. Gives how many times it was asked so: once, or not.
-fn compare_versions(board: &Board, plan_room: usize, list_room: usize, sheets: &[Vec<u16>], logs: &[Lent]) -> usize {
-    let said: Vec<Answers> = board.in_each_version().iter().map(|bytes| answers(bytes, plan_room, list_room, sheets, logs)).collect();
+fn compare_versions(board: &Board, plan_room: usize, list_room: usize, sheets: &[Vec<u16>], logs: &[Lent], positions: &[Wanted]) -> usize {
+    let said: Vec<Answers> = board.in_each_version().iter().map(|bytes| answers(bytes, plan_room, list_room, sheets, logs, positions)).collect();
     let [one, two] = &said[..] else { return 0 };
     if one != two {
-        differ("the two versions", &board.bytes(), format!("sheets {sheets:?}\nlogs {logs:?}\nversion 1 {one:?}\nversion 2 {two:?}"));
+        let lent = format!("sheets {sheets:?}\nlogs {logs:?}\npositions {positions:?}");
+        differ("the two versions", &board.bytes(), format!("{lent}\nversion 1 {one:?}\nversion 2 {two:?}"));
     }
     1
 }
@@ -198,8 +206,11 @@ fn compare_board(tally: &mut Tally, random: &mut Random, board: &Board) {
         compare_mark(tally, &bytes, sheet);
     }
     let logs = compare_logs(&mut tally.replays, random, board, &bytes, &keys[0], [&tried, &run_on]);
+    // The first log is a walk of allowed moves.
+    let (_, led_to) = logs[0].by_library(&bytes);
+    let positions = compare_copies(&mut tally.copies, random, board, &bytes, &led_to[..zones]);
     marked.push(run_on);
-    tally.versions.in_both += compare_versions(board, room, out, &marked, &logs);
+    tally.versions.in_both += compare_versions(board, room, out, &marked, &logs, &positions);
     if let Some((zone, sheet)) = sheets::run_again(random, board, &tried) {
         compare_mark(tally, &bytes, &sheet);
         if nizkabel::mark(&bytes, &sheet) != 32 {
@@ -230,8 +241,8 @@ fn compare_exhaustive(tally: &mut Tally, board: &Board) {
     tally.exhaustive += 1;
 }
 
-/// A board that may be refused: the key, the collapse, the key's own sheet and the moves of its plan, and an accepted one by exhaustion, with a
-/// sheet for every route of every carrier by the older rule, and every single move.
+/// A board that may be refused: the key, the collapse, the key's own sheet, the moves of its plan and the copy by its own position, and an accepted one
+/// by exhaustion, with a sheet for every route of every carrier by the older rule, every single move, and with no carrier out position sheets.
 fn compare_small(tally: &mut Tally, board: &Board) {
     let bytes = board.bytes();
     let accepted = second::read(&bytes).is_ok();
@@ -243,9 +254,14 @@ fn compare_small(tally: &mut Tally, board: &Board) {
     compare_mark(tally, &bytes, &sheet);
     let moves = Lent { log: logs::of_plan(plan).concat(), room: 3, canary: 0 };
     moves.by_both(&bytes);
-    tally.versions.small_in_both += compare_versions(board, 24, 3, &[sheet], &[moves]);
+    let own = Wanted { sheet: board.sheet(), room: bytes.len(), canary: 0 };
+    own.by_both(&bytes);
+    tally.versions.small_in_both += compare_versions(board, 24, 3, &[sheet], &[moves], &[own]);
     if accepted {
         tally.single_moves += compare_single_moves(board);
+        if board.carriers().is_empty() {
+            tally.first_faults += compare_every_sheet(board);
+        }
         tally.small_searched.add(board, &keys);
         count_blocked(tally, board);
         compare_exhaustive(tally, board);
@@ -313,7 +329,10 @@ fn main() {
         }
         let room = random.below(2) * random.below(12);
         let lent = Lent::new(&mut random, log, room);
-        compare_replay(&mut tally.replays, &bytes, second::read(&bytes).ok().as_ref(), &lent);
+        let read = second::read(&bytes).ok();
+        compare_replay(&mut tally.replays, &bytes, read.as_ref(), &lent);
+        let wanted = Wanted::any(&mut random, &board);
+        compare_copy(&mut tally.copies, &bytes, read.as_ref(), &wanted);
     }
     for _ in 0..5_000 {
         let length = random.below(40);
@@ -322,7 +341,11 @@ fn main() {
         compare_key(&mut tally, &bytes, 8, 8);
         let (log, room) = (sheets::noise(&mut random), random.below(8));
         let lent = Lent::new(&mut random, log, room);
-        compare_replay(&mut tally.replays, &bytes, second::read(&bytes).ok().as_ref(), &lent);
+        let read = second::read(&bytes).ok();
+        compare_replay(&mut tally.replays, &bytes, read.as_ref(), &lent);
+        let (sheet, room) = (sheets::noise(&mut random).into_iter().map(u32::from).collect(), random.below(48));
+        let wanted = Wanted::new(&mut random, sheet, room);
+        compare_copy(&mut tally.copies, &bytes, read.as_ref(), &wanted);
     }
     // Long logs on large boards.
     for _ in 0..20 {
@@ -345,6 +368,21 @@ fn main() {
             compare_board(&mut tally, &mut random, &board);
         }
     }
+    // Copies of boards with the most points and zones that there are, from where a log leads.
+    for _ in 0..40 {
+        let board = loop {
+            let sparse = 1 + random.below(6);
+            let board = any_board(&mut random, 64, 96, sparse);
+            if board.zones.len() == 96 {
+                break board;
+            }
+        };
+        let log = logs::walk(&mut random, &board, 50, 4).concat();
+        let (bytes, lent) = (boards::written(&mut random, &board), Lent::new(&mut random, log, 96));
+        let replay = compare_replay(&mut tally.replays, &bytes, Some(&board), &lent);
+        compare_copies(&mut tally.copies, &mut random, &board, &bytes, &replay.sheet);
+    }
+    tally.first_faults += compare_each_zone(&boards::accepted(&mut random, 2, 96, 1, Loops::OnceIn(4)));
     if !tally.loops.fair() {
         println!("too few boards or sheets with turning loops of some kind: {:?}", tally.loops);
         std::process::exit(1);
@@ -369,9 +407,15 @@ fn main() {
         println!("too few replays of some kind: {:?}, single moves {}", tally.replays, tally.single_moves);
         std::process::exit(1);
     }
+    if !tally.copies.fair() || tally.first_faults < 100_000 {
+        println!("too few copies of some kind: {:?}, by their first fault {}", tally.copies, tally.first_faults);
+        std::process::exit(1);
+    }
     println!(
-        "{} boards ({} accepted), {} sheets ({} passed), {} replays, {} boards by exhaustion, {} of them full, {} single moves on small ones: no difference",
-        tally.boards, tally.accepted, tally.sheets, tally.passed, tally.replays.replays(), tally.exhaustive, tally.full, tally.single_moves
+        "{} boards ({} accepted), {} sheets ({} passed), {} replays, {} writes ({} copies), {} boards by exhaustion, {} of them full, \
+         {} single moves on small ones, {} writes by their first fault: no difference",
+        tally.boards, tally.accepted, tally.sheets, tally.passed, tally.replays.replays(), tally.copies.writes(), tally.copies.copies(),
+        tally.exhaustive, tally.full, tally.single_moves, tally.first_faults
     );
     println!("turning loops: {:?}", tally.loops);
     println!("sheets that the home gate turns to 32: {:?}", tally.gate);
@@ -379,6 +423,7 @@ fn main() {
     println!("versions: {:?}", tally.versions);
     println!("search counts: {:?}, small boards {:?}", tally.searched, tally.small_searched);
     println!("replays: {:?}", tally.replays);
+    println!("copies: {:?}", tally.copies);
     println!("verdicts {:?}", tally.verdicts);
     println!("marks {:?}", tally.marks);
 }

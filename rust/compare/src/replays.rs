@@ -5,7 +5,7 @@ use crate::{differ, whole};
 use compare::logs::{noise, of_plan, shuffled, spoilt, walk};
 use compare::random::Random;
 use compare::sheets;
-use second::{Board, Key, Move, Position, Replay, HOME};
+use second::{Board, Key, Move, Replay, HOME};
 
 /// A move log, with so many words lent for the position sheet. These hold canaries; or zeros, which past the last zone look like free zones; or what
 /// a zone holds in which a carrier of the log stands.
@@ -58,7 +58,7 @@ pub fn compare_replay(tally: &mut ReplayTally, bytes: &[u8], board: Option<&Boar
 /// carried out exactly where nothing forbids it. Gives how many there are.
 pub fn compare_single_moves(board: &Board) -> usize {
     let (bytes, zones) = (board.bytes(), board.zones.len());
-    let first = Position::first(board).sheet(zones);
+    let first = board.sheet();
     let carriers: Vec<u16> = board.carriers().iter().map(|&c| c as u16).chain([0, 256 + 9]).collect();
     let words: Vec<u16> = (0..=board.words() as u16).chain([HOME - 1, HOME]).collect();
     for &carrier in &carriers {
@@ -76,7 +76,7 @@ pub fn compare_single_moves(board: &Board) -> usize {
 /// the logs with the words that were lent.
 pub fn compare_logs(tally: &mut ReplayTally, random: &mut Random, board: &Board, bytes: &[u8], key: &Key, [tried, run_on]: [&[u16]; 2]) -> Vec<Lent> {
     let zones = board.zones.len();
-    let first = Position::first(board).sheet(zones);
+    let first = board.sheet();
     let blocked: Vec<u32> = first.iter().map(|&held| if key.list.contains(&(held / 2)) { held } else { 0 }).collect();
     let full = board.zones.iter().all(|z| z.carrier != 0);
     let mut logs = Vec::new();

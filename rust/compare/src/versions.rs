@@ -1,13 +1,14 @@
 //! Boards in versions 1 and 2: what the library says of one board in both, and how many boards of a comparison are of each kind, so that a run
 //! without them is no success.
 
+use crate::copies::Wanted;
 use crate::replays::Lent;
 use crate::{whole, LIST_CANARY, PLAN_CANARY};
 use second::Board;
 use std::collections::{BTreeMap, HashSet};
 
-/// All that the library says of a board: its key and its collapse, with plan and lists whole, the marks of some sheets, and the replays of some
-/// logs, with their position sheets whole.
+/// All that the library says of a board: its key and its collapse, with plan and lists whole, the marks of some sheets, the replays of some logs, with
+/// their position sheets whole, and the copies by some position sheets, whole.
 #[derive(Debug, PartialEq)]
 pub struct Answers {
     key: nizkabel::Key,
@@ -17,15 +18,17 @@ pub struct Answers {
     left: Vec<u16>,
     marks: Vec<u32>,
     replays: Vec<(nizkabel::Replay, Vec<u32>)>,
+    copies: Vec<(nizkabel::Write, Vec<u8>)>,
 }
 
-pub fn answers(bytes: &[u8], plan_room: usize, list_room: usize, sheets: &[Vec<u16>], logs: &[Lent]) -> Answers {
+pub fn answers(bytes: &[u8], plan_room: usize, list_room: usize, sheets: &[Vec<u16>], logs: &[Lent], positions: &[Wanted]) -> Answers {
     let [mut plan, mut list, mut left] = [(plan_room, PLAN_CANARY), (list_room, LIST_CANARY), (list_room, LIST_CANARY)].map(|(room, canary)| whole([], room, canary));
     let key = nizkabel::key(bytes, &mut plan[..plan_room], &mut list[..list_room]);
     let collapse = nizkabel::collapse(bytes, &mut left[..list_room]);
     let marks = sheets.iter().map(|sheet| nizkabel::mark(bytes, sheet)).collect();
     let replays = logs.iter().map(|lent| lent.by_library(bytes)).collect();
-    Answers { key, plan, list, collapse, left, marks, replays }
+    let copies = positions.iter().map(|wanted| wanted.by_library(bytes)).collect();
+    Answers { key, plan, list, collapse, left, marks, replays, copies }
 }
 
 /// How many boards are written in version 1, in version 2 with numbers up to 255, and with some over 255.

@@ -1,6 +1,6 @@
-//! A safe Rust wrapper of the proved library: the key of a board, its collapse, the mark of a sheet, and the replay of a move log. The functions
-//! here write into slices that the caller lends, and allocate nothing; those of [`owned`] give vectors. The numbers are those of the table in
-//! the repository's README.
+//! A safe Rust wrapper of the proved library: the key of a board, its collapse, the mark of a sheet, the replay of a move log, and fair copies of
+//! boards. The functions here write into slices that the caller lends, and allocate nothing; those of [`owned`] give vectors. The numbers are those
+//! of the table in the repository's README.
 //!
 //! ```
 //! // Board K of document 01: two points, two zones, carrier 7 in zone 0.
@@ -23,6 +23,9 @@ pub const LIST_ROOM: usize = 96;
 
 /// Words of a position sheet that are room enough for every board: one for each zone.
 pub const POSITION_ROOM: usize = 96;
+
+/// Bytes of a copy that are room enough for every board: 96 zones of five bytes each after the first six.
+pub const COPY_ROOM: usize = 486;
 
 /// In a log, in the place of a word: into home.
 pub const HOME: u16 = 65_535;
@@ -57,12 +60,21 @@ pub struct Replay {
     pub moves: u64,
 }
 
+/// What a write gives: its number (0 where the copy is written; turned back by 1 to 9 of the board, by 39, or by 6 or 7 of the copy), and the count
+/// of bytes written.
+#[derive(Clone, Copy, Debug, PartialEq, Eq)]
+pub struct Write {
+    pub number: u32,
+    pub bytes: usize,
+}
+
 // Declared as in include/nizkabel.h.
 extern "C" {
     fn nizkabel_key(board: *const u8, board_len: usize, plan: *mut u16, plan_len: usize, list: *mut u16, list_len: usize, out: *mut u32) -> u32;
     fn nizkabel_collapse(board: *const u8, board_len: usize, list: *mut u16, list_len: usize, out: *mut u32) -> u32;
     fn nizkabel_mark(board: *const u8, board_len: usize, sheet: *const u16, sheet_len: usize) -> u32;
     fn nizkabel_replay(board: *const u8, board_len: usize, log: *const u16, log_len: usize, sheet: *mut u32, sheet_len: usize, out: *mut u64) -> u32;
+    fn nizkabel_write(board: *const u8, board_len: usize, sheet: *const u32, sheet_len: usize, copy: *mut u8, copy_len: usize, out: *mut u32) -> u32;
 }
 
 /// Draws the key. Past what is written, and on 1 to 11, plan and list stay as they were.
@@ -111,4 +123,30 @@ pub fn replay(board: &[u8], log: &[u16], sheet: &mut [u32]) -> Replay {
     // SAFETY: as for key; out has one element.
     let number = unsafe { nizkabel_replay(board.as_ptr(), board.len(), log.as_ptr(), log.len(), sheet.as_mut_ptr(), sheet.len(), out.as_mut_ptr()) };
     Replay { number, moves: out[0] }
+}
+
+/// Writes the fair copy of a board: its track with the position of a sheet such as [`replay`] fills, one word a zone. The copy is in version 1 where
+/// every carrier is at most 255, in version 2 else; the board's own position and version don't matter. Past the copy, and on every number but 0, the
+/// bytes lent stay as they were. After 1 to 9 of the board, 39 is tried (a sheet of more or fewer words than the board has zones, a word over
+/// 131,071, or fewer bytes lent than the copy has), then 6 (the word 1, a free zone with heading 1) and 7 (a carrier in two zones) of the copy.
+///
+/// ```
+/// use nizkabel::Write;
+///
+/// // Board K once 7 has gone into zone 1.
+/// let board = [0x00, 0x0C, 1, 2, 0, 2, 0, 1, 7, 0, 0, 1, 0, 0];
+/// let mut copy = [0u8; nizkabel::COPY_ROOM];
+/// assert_eq!(nizkabel::write(&board, &[0, 2 * 7 + 1], &mut copy), Write { number: 0, bytes: 14 });
+/// assert_eq!(copy[..14], [0x00, 0x0C, 1, 2, 0, 2, 0, 1, 0, 0, 0, 1, 7, 1]);
+/// // A carrier over 255 has room in version 2 alone.
+/// assert_eq!(nizkabel::write(&board, &[2 * 263, 0], &mut copy), Write { number: 0, bytes: 16 });
+/// assert_eq!(copy[..16], [0x00, 0x0E, 2, 2, 0, 2, 0, 1, 1, 7, 0, 0, 1, 0, 0, 0]);
+/// // 7 in two zones.
+/// assert_eq!(nizkabel::write(&board, &[14, 15], &mut copy), Write { number: 7, bytes: 0 });
+/// ```
+pub fn write(board: &[u8], sheet: &[u32], copy: &mut [u8]) -> Write {
+    let mut out = [u32::MAX; 1];
+    // SAFETY: as for key; out has one element.
+    let number = unsafe { nizkabel_write(board.as_ptr(), board.len(), sheet.as_ptr(), sheet.len(), copy.as_mut_ptr(), copy.len(), out.as_mut_ptr()) };
+    Write { number, bytes: out[0] as usize }
 }

@@ -1,5 +1,5 @@
 //! The same operations with what they give in vectors. They lend the library room that is enough for every board, so 10, 11 and 36 don't
-//! come, and a log of pairs is never odd, so neither does 37; a board that isn't accepted is an error.
+//! come, and a log of pairs is never odd, so neither does 37; a board that isn't accepted is an error, and so is a position that isn't written.
 //!
 //! ```
 //! use nizkabel::owned;
@@ -24,7 +24,7 @@
 //! # }
 //! ```
 
-use crate::{LIST_ROOM, PLAN_ROOM, POSITION_ROOM};
+use crate::{COPY_ROOM, LIST_ROOM, PLAN_ROOM, POSITION_ROOM};
 use std::fmt;
 
 /// One carrier's way home: the words of its route, each 2 × zone + heading.
@@ -51,6 +51,13 @@ pub struct Held {
     pub heading: u16,
 }
 
+impl Held {
+    /// What a position sheet has for a zone that holds it. No word says a heading over 1: a word that no write takes stands for it.
+    fn word(self) -> u32 {
+        if self.heading > 1 { u32::MAX } else { 2 * u32::from(self.carrier) + u32::from(self.heading) }
+    }
+}
+
 /// The replay of a move log on an accepted board: what each zone holds after the moves done, none where it is free, and the place in the log of the
 /// move that the rules forbid, none where every move was carried out.
 #[derive(Clone, Debug, PartialEq, Eq)]
@@ -59,7 +66,7 @@ pub struct Replay {
     pub stopped_at: Option<usize>,
 }
 
-/// Why a board isn't accepted: a number from 1 to 9.
+/// Why a board isn't accepted: a number from 1 to 9. Why a position isn't written to an accepted board: 39, or 6 or 7 of the copy.
 #[derive(Clone, Copy, Debug, PartialEq, Eq)]
 pub struct Refused(u32);
 
@@ -69,7 +76,7 @@ impl Refused {
     }
 
     fn unless_accepted(number: u32) -> Result<(), Refused> {
-        if (1..=9).contains(&number) { Err(Refused(number)) } else { Ok(()) }
+        if matches!(number, 1..=9 | 39) { Err(Refused(number)) } else { Ok(()) }
     }
 }
 
@@ -84,7 +91,8 @@ impl fmt::Display for Refused {
             6 => "an end not below P, heading over 1, or a free zone with heading 1",
             7 => "a carrier in two zones",
             8 => "a point other than home with under two zones, a turning loop counted twice",
-            _ => "points that don't hang together",
+            9 => "points that don't hang together",
+            _ => "the position isn't of as many zones as the board has, or a heading in it is over 1",
         };
         write!(f, "refused {}: {row}", self.0)
     }
@@ -153,4 +161,32 @@ pub fn replay(board: &[u8], log: &[[u16; 2]]) -> Result<Replay, Refused> {
     let held = |word: u32| (word != 0).then_some(Held { carrier: (word / 2) as u16, heading: (word % 2) as u16 });
     let stopped_at = (replay.number != 0).then_some(replay.moves as usize);
     Ok(Replay { position: sheet.into_iter().map(held).collect(), stopped_at })
+}
+
+/// Writes the fair copy of a board: its track with this position, such as [`replay`] gives, in version 1 where every carrier is at most 255, in
+/// version 2 else. It is accepted, and its first position is this one. An error on a position that isn't of as many zones as the board has or has a
+/// heading over 1 (39), that has carrier 0 with heading 1 (6), or a carrier in two zones (7).
+///
+/// ```
+/// use nizkabel::owned;
+///
+/// # fn main() -> Result<(), owned::Refused> {
+/// // Board K once 7 has gone into zone 1.
+/// let board = [0x00, 0x0C, 1, 2, 0, 2, 0, 1, 7, 0, 0, 1, 0, 0];
+/// let copy = owned::write(&board, &owned::replay(&board, &[[7, 3]])?.position)?;
+/// assert_eq!(copy, [0x00, 0x0C, 1, 2, 0, 2, 0, 1, 0, 0, 0, 1, 7, 1]);
+/// assert_eq!(owned::key(&copy)?.entries[0].words, [3]);
+///
+/// let refused = owned::write(&board, &[]).unwrap_err();
+/// assert_eq!(refused.number(), 39);
+/// # Ok(())
+/// # }
+/// ```
+pub fn write(board: &[u8], position: &[Option<Held>]) -> Result<Vec<u8>, Refused> {
+    let sheet: Vec<u32> = position.iter().map(|zone| zone.map_or(0, Held::word)).collect();
+    let mut copy = vec![0; COPY_ROOM];
+    let write = crate::write(board, &sheet, &mut copy);
+    Refused::unless_accepted(write.number)?;
+    copy.truncate(write.bytes);
+    Ok(copy)
 }

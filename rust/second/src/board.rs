@@ -71,6 +71,20 @@ impl Board {
         next
     }
 
+    /// Its position: for each zone 0, or 2 × carrier + heading.
+    pub fn sheet(&self) -> Vec<u32> {
+        self.zones.iter().map(|z| 2 * z.carrier + z.heading).collect()
+    }
+
+    /// The same track with the position of a sheet that has a word for each zone.
+    pub fn holding(&self, sheet: &[u32]) -> Board {
+        let mut next = self.clone();
+        for (zone, word) in next.zones.iter_mut().zip(sheet) {
+            (zone.carrier, zone.heading) = (word / 2, word % 2);
+        }
+        next
+    }
+
     /// Whether a word leaves at the home point.
     pub fn leaves_home(&self, word: usize) -> bool {
         self.leave(word) == self.home

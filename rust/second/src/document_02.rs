@@ -1,4 +1,5 @@
-//! Boards, sheets and move logs of the requests of document 02 with what they give, for the tests of this implementation and of the wrapper.
+//! Boards, sheets, move logs and positions of the requests of document 02 with what they give, for the tests of this implementation and of the
+//! wrapper.
 
 use crate::document_01::{far_loop, k, refused, t, turn, Row};
 use crate::replay::HOME;
@@ -109,13 +110,23 @@ pub fn wide_t(first: (u16, u8), second: (u16, u8)) -> Vec<u8> {
     laid_out(2, &[zone(first), zone(second)])
 }
 
-/// So many zones, two between each point and the next, each with a carrier; those of version 2 have the highest numbers that there are.
-pub fn held(version: u8, zones: u8, heading: u8) -> Vec<u8> {
-    let points = zones / 2 + 1;
+/// So many zones with these ends, each with a carrier; those of version 2 have the highest numbers that there are.
+fn all_held(version: u8, points: u8, zones: u8, heading: u8, ends: impl Fn(u8) -> (u8, u8)) -> Vec<u8> {
+    let ends = (0..zones).map(|z| (z, ends(z)));
     match version {
-        1 => laid_out(points, &(0..zones).map(|z| [z / 2, z / 2 + 1, z + 1, heading]).collect::<Vec<_>>()),
-        _ => laid_out(points, &(0..zones).map(|z| [z / 2, z / 2 + 1, 255, 255 - z, heading]).collect::<Vec<_>>()),
+        1 => laid_out(points, &ends.map(|(z, (a, b))| [a, b, z + 1, heading]).collect::<Vec<_>>()),
+        _ => laid_out(points, &ends.map(|(z, (a, b))| [a, b, 255, 255 - z, heading]).collect::<Vec<_>>()),
     }
+}
+
+/// So many zones, two between each point and the next, each with a carrier.
+pub fn held(version: u8, zones: u8, heading: u8) -> Vec<u8> {
+    all_held(version, zones / 2 + 1, zones, heading, |z| (z / 2, z / 2 + 1))
+}
+
+/// 64 points in a ring and 96 zones, each with a carrier.
+pub fn held_ring(version: u8, heading: u8) -> Vec<u8> {
+    all_held(version, 64, 96, heading, |z| (z % 64, (z + 1) % 64))
 }
 
 /// Request i: accepted boards in version 2.
@@ -296,4 +307,65 @@ pub fn long_replays() -> [(Vec<u16>, u32, u64, [u32; 3]); 4] {
         (rounds(5_000, &[5, HOME]), 38, 10_000, [0, 0, 11]),
         (rounds(40_000, &[5, 2]), 0, 80_001, [0, 10, 0]),
     ]
+}
+
+/// A board, a position sheet and so many bytes lent for the copy; the number, and the bytes written.
+pub type Copied = (Vec<u8>, &'static [u32], usize, u32, Vec<u8>);
+
+/// Request b: fair copies. Those of bad boards have a sheet of one word and no byte lent, so 1 to 9 are seen to come before 39.
+pub fn copies() -> Vec<Copied> {
+    let t_free = || t([0, 0], [0, 0]);
+    let k_with = |carrier| wide_t((carrier, 0), FREE);
+    let mut rows: Vec<Copied> = vec![
+        (t_free(), &[0, 0], 14, 0, t_free()),
+        (k(), &[14, 0], 14, 0, k()),
+        (t_free(), &[14, 0], 14, 0, k()),
+        (k(), &[0, 0], 14, 0, t_free()),
+        (k(), &[0, 15], 14, 0, t([0, 0], [7, 1])),
+        (t([7, 0], [9, 1]), &[14, 19], 14, 0, t([7, 0], [9, 1])),
+        (t([7, 0], [9, 1]), &[19, 14], 14, 0, t([9, 1], [7, 0])),
+        (wide_t(FREE, FREE), &[0, 0], 14, 0, t_free()),
+        (k_with(7), &[14, 0], 14, 0, k()),
+        (t_free(), &[526, 0], 16, 0, k_with(263)),
+        (k_with(263), &[526, 0], 16, 0, k_with(263)),
+        (k_with(263), &[14, 0], 14, 0, k()),
+        (t_free(), &[14, 526], 16, 0, wide_t((7, 0), (263, 0))),
+        (t_free(), &[511, 0], 14, 0, t([255, 1], [0, 0])),
+        (t_free(), &[512, 0], 16, 0, k_with(256)),
+        (t_free(), &[513, 511], 16, 0, wide_t((256, 1), (255, 1))),
+        (t_free(), &[131_071, 0], 16, 0, wide_t((65_535, 1), FREE)),
+        (turn(6, 1), &[0, 11, 0], 18, 0, laid_out(3, &[[0, 1, 0, 0], [1, 2, 5, 1], [1, 2, 0, 0]])),
+        (to_loop([1, 1, 0, 0]), &[0, 11], 14, 0, laid_out(2, &[[0, 1, 0, 0], [1, 1, 5, 1]])),
+        (loop_at_home(), &[0, 0, 11], 18, 0, loop_at_home()),
+        (toward_0(1), &[15, 0], 14, 0, toward_0(1)),
+        (t_free(), &[14, 0], 20, 0, k()),
+        (t_free(), &[526, 0], 20, 0, k_with(263)),
+        (t_free(), &[131_072, 0], 16, 39, vec![]),
+        (t_free(), &[0, u32::MAX], 16, 39, vec![]),
+        (t_free(), &[14, 0, 0], 16, 39, vec![]),
+        (t_free(), &[14], 16, 39, vec![]),
+        (t_free(), &[], 16, 39, vec![]),
+        (k(), &[14, 0], 13, 39, vec![]),
+        (k(), &[14, 0], 0, 39, vec![]),
+        (t_free(), &[526, 0], 15, 39, vec![]),
+        (t_free(), &[526, 0], 14, 39, vec![]),
+        (t_free(), &[131_072, 1], 16, 39, vec![]),
+        (t_free(), &[1, 131_072], 16, 39, vec![]),
+        (t_free(), &[1, 0], 13, 39, vec![]),
+        (t_free(), &[1], 14, 39, vec![]),
+        (t_free(), &[1, 0, 0], 14, 39, vec![]),
+        (t_free(), &[14, 14], 13, 39, vec![]),
+        (t_free(), &[14, 14, 0], 14, 39, vec![]),
+        (turn(0, 0), &[14, 14, 131_072], 21, 39, vec![]),
+        (t_free(), &[1, 0], 14, 6, vec![]),
+        (k(), &[14, 1], 14, 6, vec![]),
+        (turn(0, 0), &[1, 14, 14], 18, 6, vec![]),
+        (turn(0, 0), &[14, 14, 1], 18, 6, vec![]),
+        (t_free(), &[14, 15], 14, 7, vec![]),
+        (t_free(), &[14, 14], 14, 7, vec![]),
+        (t_free(), &[526, 527], 16, 7, vec![]),
+        (turn(0, 0), &[131_071, 14, 131_070], 21, 7, vec![]),
+    ];
+    rows.extend((1..).zip(refused()).map(|(number, board)| -> Copied { (board, &[1], 0, number, vec![]) }));
+    rows
 }

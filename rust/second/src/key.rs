@@ -130,7 +130,12 @@ pub fn key_by(rule: Rule, bytes: &[u8], plan_room: usize, list_room: usize) -> K
     if list_room < out {
         return refused(11);
     }
-    let (plan, last) = plan_by(rule, &board);
+    key_of(rule, &board)
+}
+
+/// The same of a board as it was read, with room enough.
+pub fn key_of(rule: Rule, board: &Board) -> Key {
+    let (plan, last) = plan_by(rule, board);
     let list = last.carriers();
-    Key { verdict: verdict(&list), plan, list, searched: searched(&tries(rule, &board)) }
+    Key { verdict: verdict(&list), plan, list, searched: searched(&tries(rule, board)) }
 }

@@ -1,6 +1,7 @@
 //! A second implementation of document 01, with the requests of document 02 that have landed, to compare the product with. It shares no
 //! algorithm with it: orders by permutation and routes by enumeration on small boards, distances by a backward fixpoint on large ones,
-//! cycles by deleting dead ends, the words that a carrier reaches by a forward fixpoint, a replay's moves by listing all that are allowed.
+//! cycles by deleting dead ends, the words that a carrier reaches by a forward fixpoint, a replay's moves by listing all that are allowed,
+//! a copy from the board as it was read.
 
 mod board;
 mod collapse;
@@ -11,11 +12,13 @@ mod replay;
 mod searched;
 mod small;
 mod sheet;
+mod write;
 
 pub use board::{read, Board, Rule, Zone};
 pub use collapse::{collapse, left};
-pub use key::{key, key_by, named, Key};
+pub use key::{key, key_by, key_of, named, Key};
 pub use replay::{replay, Move, Position, Replay, HOME};
 pub use searched::{tries, Try};
 pub use sheet::{mark, mark_by};
 pub use small::{all_positions_keep, key_by_enumeration, routes, Outcome};
+pub use write::{write, Write};

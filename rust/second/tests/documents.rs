@@ -1,9 +1,9 @@
-//! The boards, sheets and move logs of documents 01 and 02 by the second implementation.
+//! The boards, sheets, move logs and positions of documents 01 and 02 by the second implementation.
 
 use second::document_01::{k, refused, starred, turn, SHEETS_FOR_K};
 use second::document_02::{at_gate, held, loops_refused, one_blocked, searched, searches, to_loop, turning_loops, two_zones, SHEETS_FOR_LOOP};
-use second::document_02::{long_replays, replays, versions_refused, wide_carriers, wide_sheets, wide_t};
-use second::{collapse, key, key_by, key_by_enumeration, mark, mark_by, named, read, replay, tries, Board, Key, Replay, Rule, Try, Zone};
+use second::document_02::{copies, held_ring, long_replays, replays, versions_refused, wide_carriers, wide_sheets, wide_t};
+use second::{collapse, key, key_by, key_by_enumeration, mark, mark_by, named, read, replay, tries, write, Board, Key, Replay, Rule, Try, Write, Zone};
 
 #[test]
 fn boards() {
@@ -103,5 +103,24 @@ fn replayed() {
     }
     for (log, number, moves, written) in long_replays() {
         assert_eq!(replay(&turn(0, 0), &log, 3), Replay { number, moves, sheet: written.to_vec() });
+    }
+}
+
+#[test]
+fn copied() {
+    for (row, sheet, room, number, copy) in copies() {
+        for board in read(&row).map_or(vec![row], |said| said.in_each_version()) {
+            assert_eq!(write(&board, sheet, room), Write { number, copy: copy.clone() });
+        }
+        if number == 0 {
+            assert_eq!(read(&copy).unwrap().sheet(), sheet);
+        }
+    }
+    for (version, heading) in [(1, 0), (1, 1), (2, 0), (2, 1)] {
+        for board in [held(version, 96, heading), held_ring(version, heading)] {
+            let sheet = read(&board).unwrap().sheet();
+            assert_eq!(write(&board, &sheet, board.len()), Write { number: 0, copy: board.clone() });
+            assert_eq!(write(&board, &sheet, board.len() - 1), Write { number: 39, copy: Vec::new() });
+        }
     }
 }

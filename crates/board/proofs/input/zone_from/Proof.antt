@@ -3,7 +3,7 @@
 use Prim.Native.Nat.{ℕ, _+_, _*_}
 use native.Mathlib.Omega.{arith}
 use mathlib.Core.Path.{ap}
-use Rattle.board.proofs.ZoneBytes.{five, four}
+use Rattle.model.proofs.LayoutLaws.{five, four}
 use Rattle.board.proofs.input.zone_from.Statement.{statement}
 use Rattle.board.proofs.input.zone_from.Tie as tie
 

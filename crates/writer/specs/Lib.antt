@@ -1,0 +1,4 @@
+pub mod Given
+pub mod Drafting
+pub mod Operation
+pub mod AfterReplay

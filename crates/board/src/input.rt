@@ -1,6 +1,6 @@
 // The bytes of a board: one of them, and those of a zone in either version. Row 3 alone looks at the version elsewhere; the passes over the zones
 // only hand on whether a carrier has two bytes.
-ghost use Prim.Native.Nat.{_+_, _*_, _≤_, _<_};
+ghost use Prim.Native.Nat.{_≤_, _<_};
 ghost use mathlib.Core.Path.{_≡_};
 ghost use lib.ListN.{length};
 ghost use Rattle.model.specs.Layout.{entryFrom};

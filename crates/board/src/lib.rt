@@ -1,5 +1,6 @@
 // The board reader: from any bytes whatever, the number of the first refusal that holds, or 0 with the track and the first position that
-// they say. `read` has no `requires`; `read_into` asks for arrays of zeros, and fills them.
+// they say. `read` has no `requires`; `read_into` asks for arrays of zeros, and fills them. The writer sizes its copy by `input::zone_from` and tests
+// it by `zones::refusal`.
 mod fill;
 mod head;
 pub mod input;

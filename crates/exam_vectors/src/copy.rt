@@ -35,7 +35,7 @@ pub fn run_write(bytes: &[u8], numbers: &[u16]) {
         return;
     }
     let mut sheet = [0u32; 4];
-    // The vectors have sheets of 0 to 4 words, and lend 0 to 20 bytes.
+    // There is room for sheets of 0 to 4 words, and for 0 to 20 bytes.
     let words = (numbers.len() - 1) / 2 % 5;
     fill(&numbers[1..], &mut sheet);
     let mut copy = [99u8; 20];

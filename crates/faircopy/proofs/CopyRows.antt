@@ -1,5 +1,5 @@
--- The rows of the bytes of a board on an accepted board's track: rows 1 to 5 by the head and the length, 8 and 9 since the track is the board's; so the
--- refusal is 0, 6 or 7. Row 6 is met exactly where a word says free with heading 1, and none of them where the position is laid on the track.
+-- The rows of the bytes of a board on an accepted board's track: rows 1 to 5 by the head and the length, 8 and 9 since the track is the board's; so
+-- the refusal is 0, 6 or 7. Row 6 is met exactly where a word says free with heading 1, and none of them where the position is laid on the track.
 -- The rows of what the bytes say (BytesSaid.antt), one by one.
 use Prim.Native.Nat.{ℕ, _+_, _*_, _/_, _≤_, _<_}
 use native.Mathlib.Omega.{arith}

@@ -1,1 +1,1 @@
-// Definitions and theorems alone: the bytes of a board over a track and a position, what a fair copy is, and what holds of it. See specs/ and proofs/.
+// Definitions and theorems alone: the bytes of a board over a track and a position, and what a fair copy is. See specs/ and proofs/.

@@ -1,5 +1,5 @@
--- Stores one by one (`sets` of lib.Seq): two runs of them one after the other are one, and a run leaves what was there overwritten from its first place on.
--- By induction over what is stored, and by the library's law.
+-- Stores one by one (`sets` of lib.Seq): two runs of them one after the other are one, and a run leaves what was there overwritten from its first
+-- place on. By induction over what is stored, and by the library's law.
 use Prim.Native.Nat.{ℕ, suc, _+_, _≤_}
 use mathlib.Core.Path.{_≡_, _∙_, ap}
 use mathlib.Core.List.{List, [], _∷_, _++_, append-assoc}

@@ -1,5 +1,6 @@
 -- The board in bytes, in version 1 or 2: the refusals 1 to 9 in rising order, or a track with a first position. Versions differ in where the
--- bytes of a zone are and in how many a carrier has (Layout.antt); what is read of them is one form, and nothing else that is read speaks of a version.
+-- bytes of a zone are and in how many a carrier has (Layout.antt); what is read of them is one form, and nothing else that is read speaks of a
+-- version.
 use Prim.Native.Nat.{ℕ, _+_, _*_, _/_, _%_, _<_}
 use mathlib.Core.List.{List, map}
 use mathlib.Core.Path.{_≡_}

@@ -90,7 +90,7 @@ module _ (v : Bool) (t : Track) (p : Position) where
       ap flatten (map-append (entryBytes v t p) (numbersBelow n) (n ∷ [])) ∙
       flatten-last (map (entryBytes v t p) (numbersBelow n)) (entryBytes v t p n)
 
-  -- what holds while the entries of the first z zones are draft
+  -- what holds while the entries of the first z zones are drafted
   pub record Drafting (draft₀ draft : List ℕ) (z : ℕ) : Type 0 where
     pub within : z ≤ t .zones
     pub stored : draft ≡ sets draft₀ 6 (allEntries v t p z)

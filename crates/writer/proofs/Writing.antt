@@ -1,5 +1,5 @@
 -- The write on a track, by its tests: 39 for a sheet of another size, a word over the limit or too little room, else the copy's own rows.
--- Each case of the definition; the bytes draft are the copy's, and on the track of an accepted board rows 6 and 7 are all that can refuse them.
+-- Each case of the definition; the bytes drafted are the copy's, and on the track of an accepted board rows 6 and 7 are all that can refuse them.
 use Prim.Native.Nat.{ℕ, _+_, _≤_, _<_}
 use native.Mathlib.Omega.{arith}
 use mathlib.Core.List.{List, _++_}
@@ -26,7 +26,7 @@ use Rattle.faircopy.proofs.WriteMet.{write-unwritable, write-tested, tested-zer
 use Rattle.writer.specs.Given.{BoardTrack, WriteGiven}
 use Rattle.writer.specs.Drafting.{Draftable}
 
--- what the tests leave can be draft
+-- what the tests leave can be drafted
 module _ {t : Track} (on : BoardTrack t) where
   sizes : AcceptedTrack t
   sizes = subst AcceptedTrack (on .says) (accepted-track (on .board) (on .accepted))
@@ -96,7 +96,7 @@ module _ (t : Track) (p : Position) where
         subst (λ (a : WriteAnswer). WriteGiven a copy number count copy′)
         (sym (write-tested t p (length copy) (simp (eq-eqb (length p) (t .zones) each, words, le-ltb (length copy) (length (copyBytes t p)) room))))
 
-  -- the bytes that were draft
+  -- the bytes that were drafted
 
   pub whole-copy : Whole (copyBytes t p)
   whole-copy = length-board (needsTwo p) t p ∙ sym (from-is (needsTwo p) t p (zonesSaid (copyBytes t p)) ∙ ap (entryFrom (needsTwo p)) (zones-is (needsTwo p) t p))

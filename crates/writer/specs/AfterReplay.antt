@@ -1,5 +1,5 @@
--- A board kept after some moves: the first Z words of a replay's sheet, on 0 and on 38, are written with 0 where as many bytes are lent as the copy has,
--- and the reader gives them back as that position.
+-- A board kept after some moves: the first Z words of a replay's sheet, on 0 and on 38, are written with 0 where enough bytes are lent, and the
+-- reader gives them back as that position.
 use Prim.Native.Nat.{ℕ}
 use mathlib.Core.List.{List}
 use mathlib.Core.Path.{_≡_}

@@ -65,11 +65,14 @@ impl Wanted {
     }
 }
 
-/// The write of a sheet for a board in bytes, with the board where it is accepted.
+/// The write of a sheet for a board in bytes, with the board where it is accepted, and what is written.
 pub fn compare_copy(tally: &mut CopyTally, bytes: &[u8], board: Option<&Board>, wanted: &Wanted) -> Write {
     let write = wanted.by_both(bytes);
     if !tally.add(bytes, board, wanted, &write) {
         differ("the number of the first fault", bytes, format!("{wanted:?}\n{write:?}"));
+    }
+    if let (Some(board), 0) = (board, write.number) {
+        compare_written(board, &wanted.sheet, &write.copy);
     }
     write
 }
@@ -159,7 +162,6 @@ pub fn compare_copies(tally: &mut CopyTally, random: &mut Random, board: &Board,
         if *sheet == right[0] {
             compare_own(board, bytes, &write.copy);
         }
-        compare_written(board, sheet, &write.copy);
         copies.push(wanted);
     }
     for (spoils, enough) in [(false, false), (true, true), (true, true), (true, false)] {

@@ -1,7 +1,7 @@
 //! A second implementation of document 01, with the requests of document 02 that have landed, to compare the product with. It shares no
 //! algorithm with it: orders by permutation and routes by enumeration on small boards, distances by a backward fixpoint on large ones,
 //! cycles by deleting dead ends, the words that a carrier reaches by a forward fixpoint, a replay's moves by listing all that are allowed,
-//! a copy from the board as it was read.
+//! a write's number from the words of its sheet and the room.
 
 mod board;
 mod collapse;

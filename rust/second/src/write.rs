@@ -1,5 +1,5 @@
-//! Fair copies of boards. What turns a sheet back is told from its words alone; the copy is the board as it was read with other carriers in its
-//! zones, put into bytes as every board here is.
+//! Fair copies of boards. What turns a sheet back is told from its words and the room, before there is a copy; the copy is the board as it was read
+//! with other carriers in its zones, put into bytes as every board here is.
 
 use crate::board::read;
 use std::collections::HashSet;

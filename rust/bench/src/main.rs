@@ -1,10 +1,11 @@
 //! Times the proved library against a Rust port of the same algorithm, a search that scans all words at each step, and the second
 //! implementation, all in one run, and where one is linked against an older build of it. Prints nanoseconds a call and ratios; below 1 the
-//! proved library is faster.
+//! proved library is faster. Then times the examiner's tool on files of sheets.
 
 #[cfg(before)]
 mod before;
 mod port;
+mod sitting;
 
 use compare::{boards::{self, Loops}, logs, random::Random, sheets};
 use second::{Board, Key};
@@ -227,6 +228,7 @@ fn main() {
     }
     long_replays(&mut random, 45);
     long_replays(&mut random, 80);
+    sitting::rows(&mut random);
     // Chains with one free part, one for each point, and one for every two points.
     for points in [8, 16, 32, 64] {
         chain("free", boards::chain(points, |_| false));

@@ -7,6 +7,8 @@ mod copy_tally;
 mod faults;
 mod gate;
 mod loops;
+mod places;
+mod readable;
 mod replay_tally;
 mod replays;
 mod searched;
@@ -20,6 +22,8 @@ use copies::{compare_copies, compare_copy, compare_each_zone, compare_every_shee
 use copy_tally::CopyTally;
 use gate::GateTally;
 use loops::LoopTally;
+use places::PlaceTally;
+use readable::{compare_forms, compare_page, compare_sheets};
 use replay_tally::ReplayTally;
 use replays::{compare_logs, compare_replay, compare_single_moves, Lent};
 use searched::SearchTally;
@@ -48,6 +52,8 @@ struct Tally {
     single_moves: usize,
     copies: CopyTally,
     first_faults: usize,
+    places: PlaceTally,
+    said: usize,
     verdicts: std::collections::BTreeMap<u32, usize>,
     marks: std::collections::BTreeMap<u32, usize>,
 }
@@ -96,6 +102,9 @@ fn compare_key(tally: &mut Tally, bytes: &[u8], plan_room: usize, list_room: usi
         differ("key", bytes, format!("expected {expected:?}\ngot {got:?}\nplan {plan:?}\nlist {list:?}"));
     }
     *tally.verdicts.entry(got.verdict).or_default() += 1;
+    if ![10, 11].contains(&got.verdict) {
+        compare_page(bytes, &expected);
+    }
 
     let (number, left) = second::collapse(bytes, list_room);
     let mut list = whole([], list_room, LIST_CANARY);
@@ -117,6 +126,7 @@ fn compare_mark(tally: &mut Tally, bytes: &[u8], sheet: &[u16]) {
     tally.sheets += 1;
     tally.passed += (got == 0) as usize;
     *tally.marks.entry(got).or_default() += 1;
+    tally.places.compare(bytes, sheet);
 }
 
 /// A sheet that is right by the older rule as far as it goes gets 32 exactly if it runs on through home.
@@ -156,7 +166,10 @@ fn count_bytes(tally: &mut Tally, bytes: &[u8]) {
             tally.accepted += 1;
             count_blocked(tally, &board);
         }
-        Err(number) => tally.versions.add_refused(bytes, number),
+        Err(number) => {
+            tally.versions.add_refused(bytes, number);
+            tally.places.compare_refused(bytes);
+        }
     }
 }
 
@@ -201,10 +214,13 @@ fn compare_board(tally: &mut Tally, random: &mut Random, board: &Board) {
     let claim = sheets::claim(&named);
     compare_run_on(tally, board, &bytes, &run_on);
     let spoilt = [&run_on, &tried, &claim].map(|sheet| sheets::spoilt(random, sheet));
-    let mut marked = [vec![tried.clone(), claim, sheets::noise(random)], spoilt.to_vec()].concat();
+    let mistaken = sheets::mistaken(random, board, &tried);
+    let mut marked = [vec![tried.clone(), claim, mistaken, sheets::noise(random)], spoilt.to_vec()].concat();
     for sheet in &marked {
         compare_mark(tally, &bytes, sheet);
     }
+    compare_forms(random, board, &bytes);
+    tally.said += compare_sheets(random, &bytes, &marked);
     let logs = compare_logs(&mut tally.replays, random, board, &bytes, &keys[0], [&tried, &run_on]);
     // The first log is a walk of allowed moves.
     let (_, led_to) = logs[0].by_library(&bytes);
@@ -271,6 +287,7 @@ fn compare_small(tally: &mut Tally, board: &Board) {
             }
         }
     } else {
+        tally.places.compare_refused(&bytes);
         tally.blocked.refused_with_one += (second::named(Rule::HomeGate, board).len() == 1) as usize;
     }
 }
@@ -411,6 +428,10 @@ fn main() {
         println!("too few copies of some kind: {:?}, by their first fault {}", tally.copies, tally.first_faults);
         std::process::exit(1);
     }
+    if !tally.places.fair() || tally.said < 100_000 {
+        println!("too few faults of some kind, or too few sheets in lines: {:?}, {}", tally.places, tally.said);
+        std::process::exit(1);
+    }
     println!(
         "{} boards ({} accepted), {} sheets ({} passed), {} replays, {} writes ({} copies), {} boards by exhaustion, {} of them full, \
          {} single moves on small ones, {} writes by their first fault: no difference",
@@ -424,6 +445,8 @@ fn main() {
     println!("search counts: {:?}, small boards {:?}", tally.searched, tally.small_searched);
     println!("replays: {:?}", tally.replays);
     println!("copies: {:?}", tally.copies);
+    println!("sheets in lines, rows and bytes: {}", tally.said);
+    println!("faults by the examiner's tool: {:?}", tally.places);
     println!("verdicts {:?}", tally.verdicts);
     println!("marks {:?}", tally.marks);
 }

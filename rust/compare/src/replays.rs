@@ -1,5 +1,6 @@
 //! Compares replays, whole: number, count of moves, every word of the position sheet, and canaries past what may be written.
 
+use crate::places::compare_forbidden;
 use crate::replay_tally::{forbidden, ReplayTally};
 use crate::{differ, whole};
 use compare::logs::{noise, of_plan, shuffled, spoilt, walk};
@@ -51,7 +52,19 @@ pub fn compare_replay(tally: &mut ReplayTally, bytes: &[u8], board: Option<&Boar
     if !tally.add(bytes, board, lent, &replay) {
         differ("a replay stopped where nothing forbids it, or went on", bytes, format!("{lent:?}\n{replay:?}"));
     }
+    if let (Some(board), 38) = (board, replay.number) {
+        let at = 2 * replay.moves as usize;
+        let next = [lent.log[at], lent.log[at + 1]];
+        compare_forbidden(bytes, &led_to(bytes, &replay.sheet), next, forbidden(board, &replay.sheet, next));
+    }
     replay
+}
+
+/// An accepted board with the position of a sheet, as the examiner's tool holds it.
+fn led_to(bytes: &[u8], sheet: &[u32]) -> examiner::board::Board {
+    let mut copy = [0; nizkabel::COPY_ROOM];
+    let write = nizkabel::write(bytes, sheet, &mut copy);
+    examiner::board::Board::accepted(&copy[..write.bytes]).unwrap_or_else(|refused| differ("a copy is refused", bytes, format!("{sheet:?}\n{refused}")))
 }
 
 /// Every single move on an accepted board, of each carrier out, of 0 and of one that isn't out, into each word, past the last and into home. It is
@@ -59,14 +72,17 @@ pub fn compare_replay(tally: &mut ReplayTally, bytes: &[u8], board: Option<&Boar
 pub fn compare_single_moves(board: &Board) -> usize {
     let (bytes, zones) = (board.bytes(), board.zones.len());
     let first = board.sheet();
+    let position = led_to(&bytes, &first);
     let carriers: Vec<u16> = board.carriers().iter().map(|&c| c as u16).chain([0, 256 + 9]).collect();
     let words: Vec<u16> = (0..=board.words() as u16).chain([HOME - 1, HOME]).collect();
     for &carrier in &carriers {
         for &word in &words {
             let replay = Lent { log: vec![carrier, word], room: zones + 1, canary: 0 }.by_both(&bytes);
-            if (replay.number == 0) != forbidden(board, &first, [carrier, word]).is_none() {
+            let why = forbidden(board, &first, [carrier, word]);
+            if (replay.number == 0) != why.is_none() {
                 differ("a single move", &bytes, format!("{carrier} {word}: {replay:?}"));
             }
+            compare_forbidden(&bytes, &position, [carrier, word], why);
         }
     }
     carriers.len() * words.len()

@@ -1,6 +1,7 @@
 //! Sheets for a board: by orders and routes other than the key's, right ones or ones that were right by the older moving rule; claims, spoilt and
 //! random ones.
 
+use crate::boards::shuffle;
 use crate::random::Random;
 use second::{Board, Rule};
 
@@ -72,7 +73,7 @@ pub fn spoilt(random: &mut Random, sheet: &[u16]) -> Vec<u16> {
 }
 
 /// Where the entries of a plan's sheet start.
-fn entries(sheet: &[u16]) -> Vec<usize> {
+pub fn entries(sheet: &[u16]) -> Vec<usize> {
     let mut starts = Vec::new();
     let mut at = 1;
     while at < sheet.len() {
@@ -101,6 +102,28 @@ pub fn run_again(random: &mut Random, board: &Board, sheet: &[u16]) -> Option<(u
     words.insert(place + 1, words[place] ^ random.below(2) as u16);
     words[entry + 1] += 1;
     Some((words[place] as usize / 2, words))
+}
+
+/// A plan's sheet with whole entries and the mistakes that candidates make: in another order, an entry twice or left out, a route without its last
+/// word or with one of its words changed.
+pub fn mistaken(random: &mut Random, board: &Board, sheet: &[u16]) -> Vec<u16> {
+    let mut routes: Vec<Vec<u16>> = entries(sheet).into_iter().map(|at| sheet[at..at + 2 + usize::from(sheet[at + 1])].to_vec()).collect();
+    if routes.is_empty() {
+        return sheet.to_vec();
+    }
+    let at = random.below(routes.len());
+    let count = routes[at].len() - 2;
+    match random.below(6) {
+        0 | 1 => shuffle(random, &mut routes),
+        2 => routes.push(routes[at].clone()),
+        3 => drop(routes.remove(at)),
+        4 if count > 1 => {
+            routes[at].pop();
+            routes[at][1] -= 1;
+        }
+        _ => routes[at][2 + random.below(count)] = random.below(board.words()) as u16,
+    }
+    [vec![0], routes.concat()].concat()
 }
 
 pub fn noise(random: &mut Random) -> Vec<u16> {

@@ -1,0 +1,103 @@
+//! Cells parted by commas, semicolons or tabs, as spreadsheets write them, and cells to be read by one.
+
+use crate::text::{quoted, Mistake};
+use std::iter::Peekable;
+use std::str::Chars;
+
+/// A cell: its text, and the line where it starts.
+#[derive(Clone, Debug, Default, PartialEq, Eq)]
+pub struct Cell {
+    pub line: usize,
+    pub text: String,
+}
+
+/// A row: its cells, or the mistake in it with the cells before.
+pub struct Row {
+    pub cells: Vec<Cell>,
+    pub mistake: Option<Mistake>,
+}
+
+/// What parts the cells of a text: a tab where its first line has one outside of quotes, else a semicolon, else a comma.
+pub fn separator(first_line: &str) -> Option<char> {
+    let bare: String = first_line.split('"').step_by(2).collect();
+    ['\t', ';', ','].into_iter().find(|&separator| bare.contains(separator))
+}
+
+/// The rows of a text. A cell in quotes may hold separators, line ends, and a quote written twice.
+pub struct Rows<'a> {
+    rest: Peekable<Chars<'a>>,
+    separator: char,
+    line: usize,
+}
+
+impl<'a> Rows<'a> {
+    pub fn new(text: &'a str, separator: char) -> Self {
+        Rows { rest: text.chars().peekable(), separator, line: 1 }
+    }
+
+    /// The next character. A line ends with a line feed, a carriage return, or both, which are one.
+    fn next_char(&mut self) -> Option<char> {
+        let c = self.rest.next()?;
+        if c == '\r' {
+            self.rest.next_if_eq(&'\n');
+        }
+        let ends = c == '\r' || c == '\n';
+        self.line += usize::from(ends);
+        Some(if ends { '\n' } else { c })
+    }
+
+    /// A cell, the mistake in it, and what ended it: a separator, a line's end, or the text's.
+    fn cell(&mut self) -> (Cell, Option<Mistake>, Option<char>) {
+        let mut cell = Cell { line: self.line, text: String::new() };
+        let in_quotes = self.rest.next_if_eq(&'"').is_some();
+        if in_quotes {
+            loop {
+                match self.next_char() {
+                    Some('"') if self.rest.next_if_eq(&'"').is_none() => break,
+                    Some(c) => cell.text.push(c),
+                    None => {
+                        let mistake = Mistake::new(cell.line, "a quote that opens a cell isn't closed, and the file ends in it");
+                        return (cell, Some(mistake), None);
+                    }
+                }
+            }
+        }
+        let (line, closed) = (self.line, cell.text.len());
+        let end = loop {
+            match self.next_char() {
+                Some(c) if c != self.separator && c != '\n' => cell.text.push(c),
+                end => break end,
+            }
+        };
+        let after = &cell.text[closed..];
+        let stray = in_quotes && !after.trim().is_empty();
+        let mistake = stray.then(|| Mistake::new(line, format!("{} after the quote that closes a cell", quoted(after))));
+        (cell, mistake, end)
+    }
+}
+
+impl Iterator for Rows<'_> {
+    type Item = Row;
+
+    fn next(&mut self) -> Option<Row> {
+        self.rest.peek()?;
+        let mut row = Row { cells: Vec::new(), mistake: None };
+        loop {
+            let (cell, mistake, end) = self.cell();
+            row.cells.push(cell);
+            row.mistake = row.mistake.or(mistake);
+            if end != Some(self.separator) {
+                return Some(row);
+            }
+        }
+    }
+}
+
+/// A row to be read by a spreadsheet. A text that it would take for a formula gets an apostrophe before it.
+pub fn row(cells: &[&str]) -> String {
+    let cell = |text: &&str| {
+        let text = if text.starts_with(['=', '+', '-', '@', '\t', '\r']) { format!("'{text}") } else { text.to_string() };
+        if text.contains([',', ';', '"', '\n', '\r', '\t']) { format!("\"{}\"", text.replace('"', "\"\"")) } else { text }
+    };
+    cells.iter().map(cell).collect::<Vec<_>>().join(",") + "\n"
+}

@@ -1,0 +1,105 @@
+//! Logs of single moves: `7 1-` into a zone, `7 home` into home; and why the rules forbid a move.
+
+use crate::board::Board;
+use crate::fault::Reason;
+use crate::sheet::carrier;
+use crate::text::{decoded, lines, quoted, said, word_shown, zone_word, Mistake};
+use nizkabel::HOME;
+use std::fmt;
+
+/// A log's words as the library takes them, and of a text the line of each move.
+#[derive(Clone, Debug, PartialEq, Eq)]
+pub struct Log {
+    pub words: Vec<u16>,
+    pub lines: Vec<usize>,
+}
+
+impl Log {
+    /// The moves, each a carrier and a word.
+    pub fn moves(&self) -> Vec<[u16; 2]> {
+        self.words.chunks_exact(2).map(|pair| [pair[0], pair[1]]).collect()
+    }
+}
+
+/// Reads a log's file. It is bytes where it holds a byte 0 or 255: a text has none, and every move has one that the rules could allow.
+pub fn read(file: &[u8]) -> Result<Log, Mistake> {
+    if !file.iter().any(|byte| [0, 255].contains(byte)) {
+        return readable(&decoded(file));
+    }
+    match file.chunks_exact(2) {
+        pairs if pairs.remainder().is_empty() => {
+            Ok(Log { words: pairs.map(|pair| u16::from_be_bytes([pair[0], pair[1]])).collect(), lines: Vec::new() })
+        }
+        _ => Err(Mistake::new(1, format!("a log in bytes has two for each word, and these are {}", file.len()))),
+    }
+}
+
+fn readable(text: &str) -> Result<Log, Mistake> {
+    let mut log = Log { words: Vec::new(), lines: Vec::new() };
+    for (line, text) in lines(text).map(|(line, text)| (line, said(text))).filter(|(_, text)| !text.is_empty()) {
+        log.words.extend(move_said(text).map_err(|what| Mistake::new(line, what))?);
+        log.lines.push(line);
+    }
+    Ok(log)
+}
+
+fn move_said(line: &str) -> Result<[u16; 2], String> {
+    match line.split_whitespace().collect::<Vec<_>>()[..] {
+        [number, "home"] => Ok([carrier(number)?, HOME]),
+        [number, zone] => match zone_word(zone)? {
+            // In a log this word says home.
+            HOME => Err(format!("{} is over every zone, and its word would say home", quoted(zone))),
+            word => Ok([carrier(number)?, word]),
+        },
+        _ => Err(format!("{} is no move: write 7 1- for carrier 7 into zone 1, 7 home into home", quoted(line))),
+    }
+}
+
+/// A move as a readable log has it.
+pub fn move_shown(carrier: u16, word: u16) -> String {
+    if word == HOME { format!("{carrier} home") } else { format!("{carrier} {}", word_shown(word)) }
+}
+
+/// Why a move is forbidden at its turn.
+#[derive(Clone, Debug, PartialEq, Eq)]
+pub enum Forbidden {
+    NotOut,
+    NotHome { leaves: u8 },
+    OnlyHome,
+    /// As for a word of a sheet.
+    Word(Reason),
+}
+
+/// Why the rules forbid a move, as the board has it whose position is the one before the move; none where no reason fits.
+pub fn forbidden(board: &Board, carrier: u16, word: u16) -> Option<Forbidden> {
+    let Some(standing) = board.standing(carrier) else { return Some(Forbidden::NotOut) };
+    let leaves = board.leave(standing);
+    if word == HOME {
+        return (leaves != board.home).then_some(Forbidden::NotHome { leaves });
+    }
+    if !board.has_zone(word) {
+        return Some(Forbidden::Word(Reason::NoSuchZone { zones: board.zones.len() }));
+    }
+    if leaves == board.home {
+        return Some(Forbidden::OnlyHome);
+    }
+    let starts = board.start(word);
+    if leaves != starts {
+        return Some(Forbidden::Word(Reason::DoesNotTouch { leaves, starts }));
+    }
+    if standing / 2 == word / 2 {
+        return Some(Forbidden::Word(Reason::SameZone));
+    }
+    board.zones[usize::from(word / 2)].held.map(|held| Forbidden::Word(Reason::HeldBy(held.carrier)))
+}
+
+impl fmt::Display for Forbidden {
+    fn fmt(&self, f: &mut fmt::Formatter<'_>) -> fmt::Result {
+        match self {
+            Forbidden::NotOut => write!(f, "the carrier isn't out"),
+            Forbidden::NotHome { leaves } => write!(f, "it leaves at point {leaves}, not at home"),
+            Forbidden::OnlyHome => write!(f, "it heads for home and goes nowhere else"),
+            Forbidden::Word(reason) => write!(f, "{reason}"),
+        }
+    }
+}

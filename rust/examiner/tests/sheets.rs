@@ -1,0 +1,104 @@
+//! Files of sheets: what each form says, and the mistakes in them.
+
+use examiner::candidates::candidates;
+
+/// The names and the sheets of a file, or the mistakes in them.
+fn read(file: &str) -> Vec<(String, Result<Vec<u16>, String>)> {
+    candidates("file", file.as_bytes()).into_iter().map(|c| (c.name, c.sheet.map_err(|mistake| mistake.to_string()))).collect()
+}
+
+/// The one sheet of a file that names nobody.
+fn sheet(text: &str) -> Result<Vec<u16>, String> {
+    let [(name, sheet)] = &read(text)[..] else { panic!("one sheet: {text}") };
+    assert_eq!(name, "file");
+    sheet.clone()
+}
+
+fn right(names: &[(&str, &[u16])]) -> Vec<(String, Result<Vec<u16>, String>)> {
+    names.iter().map(|(name, sheet)| (name.to_string(), Ok(sheet.to_vec()))).collect()
+}
+
+#[test]
+fn lines_say_the_words() {
+    assert_eq!(sheet("home 7: 0+ 1-\n"), Ok(vec![0, 7, 2, 0, 3]));
+    assert_eq!(sheet("home 7: 0+ 1-\nblocked none\n"), Ok(vec![0, 7, 2, 0, 3]));
+    assert_eq!(sheet("blocked none\nhome 9: 1-\nhome 7: 0+ 1-"), Ok(vec![0, 9, 1, 3, 7, 2, 0, 3]));
+    assert_eq!(sheet("board 2 points 2 zones 1 out\nverdict 0\nhome 7: 0+ 1-\nblocked none\n"), Ok(vec![0, 7, 2, 0, 3]));
+    assert_eq!(sheet("verdict 20\nblocked 5 6 # both"), Ok(vec![1, 5, 6]));
+    assert_eq!(sheet("blocked none"), Ok(vec![0]));
+    assert_eq!(sheet(""), Ok(vec![]));
+    assert_eq!(sheet("\n# nothing, at all; really\n"), Ok(vec![]));
+    assert_eq!(sheet("board\nverdict"), Ok(vec![]));
+    assert_eq!(sheet("\thome  007 :\t0+   32767- \r\n"), Ok(vec![0, 7, 2, 0, 65_535]));
+    assert_eq!(sheet("home 65535:"), Ok(vec![0, 65_535, 0]));
+    assert_eq!(sheet("home 0: 0+"), Ok(vec![0, 0, 1, 0]));
+}
+
+#[test]
+fn mistakes_have_their_lines() {
+    assert_eq!(sheet("home 7: 0+\n\nblocked 9"), Err("3: blocked carriers after home: a sheet is a plan or a claim".to_string()));
+    assert_eq!(sheet("blocked 9\nhome 7: 0+"), Err("2: home after blocked carriers: a sheet is a plan or a claim".to_string()));
+    assert_eq!(sheet("blocked none\nblocked 9"), Err("2: a second blocked line".to_string()));
+    assert_eq!(sheet("blocked none\nhome 7: 0+\nblocked none"), Err("3: a second blocked line".to_string()));
+    assert_eq!(sheet("blocked"), Err("1: blocked says none, or the carriers that are".to_string()));
+    assert_eq!(sheet("blocked 5 none"), Err("1: carrier \"none\" is no number".to_string()));
+    assert_eq!(sheet("home 7: 0+\nhmoe 9: 1-"), Err("2: \"hmoe\" starts no line of a sheet: those are home and blocked".to_string()));
+    assert_eq!(sheet("refused 7"), Err("1: \"refused\" starts no line of a sheet: those are home and blocked".to_string()));
+    assert_eq!(sheet("home 7 0+ 1-"), Err("1: a home line is the carrier, a colon and its route, as in: home 7: 0+ 1-".to_string()));
+    assert_eq!(sheet("home : 0+"), Err("1: carrier \"\" is no number".to_string()));
+    assert_eq!(sheet("home 7: 0"), Err("1: \"0\" is no zone with + or - for its heading".to_string()));
+    assert_eq!(sheet("home 7: 0+, 1-"), Err("1: \"0+,\" is no zone with + or - for its heading".to_string()));
+    assert_eq!(sheet("home 7: -"), Err("1: zone \"\" is no number".to_string()));
+    assert_eq!(sheet("home 7: 0A+"), Err("1: zone \"0A\" is no number".to_string()));
+    assert_eq!(sheet("home 7: 32768+"), Err("1: zone 32768 is over 32767".to_string()));
+    assert_eq!(sheet("home 65536: 0+"), Err("1: carrier 65536 is over 65535".to_string()));
+    assert_eq!(sheet("blocked 65536"), Err("1: carrier 65536 is over 65535".to_string()));
+    let long = format!("home 7:{}", " 0+".repeat(65_536));
+    assert_eq!(sheet(&long), Err("1: a route has no more than 65535 words".to_string()));
+}
+
+#[test]
+fn several_candidates_in_a_file() {
+    let file = "# sitting 4\ncandidate Anna # from the left\nhome 7: 0+ 1-\n\ncandidate\tBo #2, late\nblocked 7\ncandidate Cy\n";
+    assert_eq!(read(file), right(&[("Anna", &[0, 7, 2, 0, 3]), ("Bo #2, late", &[1, 7]), ("Cy", &[])]));
+    let mistaken = read("home 7: 0+\ncandidate\nhome 7: 0+\ncandidate Di\nhome 7\ncandidate Ed\nblocked 7");
+    let expected = [
+        ("file", Err("1: a line of a sheet before the first candidate".to_string())),
+        ("(no name)", Err("2: a candidate without a name".to_string())),
+        ("Di", Err("5: a home line is the carrier, a colon and its route, as in: home 7: 0+ 1-".to_string())),
+        ("Ed", Ok(vec![1, 7])),
+    ];
+    assert_eq!(mistaken, expected.map(|(name, sheet)| (name.to_string(), sheet)));
+    // A name that isn't in UTF-8.
+    assert_eq!(candidates("file", b"candidate J\xF6rg\nblocked 7")[0].name, "Jörg");
+}
+
+#[test]
+fn rows_of_a_spreadsheet() {
+    let three = right(&[("Anna", &[0, 7, 2, 0, 3]), ("Bo, late", &[0, 9, 1, 3, 7, 2, 0, 3]), ("Cy", &[1, 7, 9])]);
+    assert_eq!(read("name,entries\nAnna,home 7: 0+ 1-\n\"Bo, late\",9: 1-,7: 0+ 1-,\nCy,blocked 7 9,,\n,,\n"), three);
+    assert_eq!(read("Anna;home 7: 0+ 1-;blocked none\r\nBo, late;9: 1-;7: 0+ 1-\r\nCy;blocked 7 9\r\n"), three);
+    assert_eq!(read("\u{FEFF}Anna\t7: 0+ 1-\n\"Bo, late\"\t\"home 9: 1-\nhome 7: 0+ 1-\"\nCy\tblocked 7 9"), three);
+    assert_eq!(read("\"\"\"Al\"\"\",blocked none\nNo One,\n"), right(&[("\"Al\"", &[0]), ("No One", &[])]));
+    assert_eq!(read("Łucja,blocked 7\n"), right(&[("Łucja", &[1, 7])]));
+    let mistaken = read("Anna,7: 0+ 1-\nBo,7: 0+\n,7: 0+\n\"Cy\" x,7: 0+\nDi,\"7: 0+\n\n9: 1\"\nEd,7: 0+,\"9: 1-\nFy,7: 0+\n");
+    let expected = [
+        ("Anna", Ok(vec![0, 7, 2, 0, 3])),
+        ("Bo", Ok(vec![0, 7, 1, 0])),
+        ("(no name)", Err("3: a candidate without a name".to_string())),
+        ("Cy x", Err("4: \" x\" after the quote that closes a cell".to_string())),
+        ("Di", Err("7: \"1\" is no zone with + or - for its heading".to_string())),
+        ("Ed", Err("8: a quote that opens a cell isn't closed, and the file ends in it".to_string())),
+    ];
+    assert_eq!(mistaken, expected.map(|(name, sheet)| (name.to_string(), sheet)));
+}
+
+#[test]
+fn a_sheet_in_bytes() {
+    let read = |file: &[u8]| candidates("file", file).remove(0).sheet.map_err(|mistake| mistake.to_string());
+    assert_eq!(read(&[0, 0, 1, 7, 0, 2, 0, 0, 0, 3]), Ok(vec![0, 263, 2, 0, 3]));
+    assert_eq!(read(&[1, 2, 3, 4]), Ok(vec![258, 772]));
+    // A text in another encoding isn't marked.
+    assert_eq!(read(b"\xFF\xFEb\0"), Err("1: \"ÿþb\\u{0}\" starts no line of a sheet: those are home and blocked".to_string()));
+    assert_eq!(read(&[0, 0, 7]), Err("1: a sheet in bytes has two for each word, and these are 3".to_string()));
+}

@@ -23,6 +23,9 @@ enum Kind {
     HalfDone,
 }
 
+const KINDS: [(&str, Kind); 4] =
+    [("right", Kind::Right), ("mistaken", Kind::Mistaken), ("forgotten", Kind::OneForgotten), ("half done", Kind::HalfDone)];
+
 /// A sheet of this kind, from the plan of the board's key.
 fn sheet(random: &mut Random, board: &second::Board, plan: &[u16], kind: Kind) -> Vec<u16> {
     let right = [&[0], plan].concat();
@@ -45,12 +48,13 @@ fn ordered(random: &mut Random, sparse: usize) -> second::Board {
     }
 }
 
-/// A line for each kind on random boards, and on the one that is long to search: the median over boards, and how many sheets a second that is.
+/// A line for each kind on random boards, on the one that is long to search and on the one with long routes: the median over boards, and how many
+/// sheets a second that is.
 pub fn rows(random: &mut Random) {
     let drawn: Vec<second::Board> = (0..20).map(|round| ordered(random, 2 + round % 4)).collect();
-    let worst = vec![boards::worst(); 5];
-    for (name, boards) in [("96 zones", drawn), ("worst", worst)] {
-        for (kind_name, kind) in [("right", Kind::Right), ("mistaken", Kind::Mistaken), ("forgotten", Kind::OneForgotten), ("half done", Kind::HalfDone)] {
+    let alike = |board: second::Board| vec![board; 5];
+    for (name, boards) in [("96 zones", drawn), ("worst", alike(boards::worst())), ("fan", alike(boards::fan()))] {
+        for (kind_name, kind) in KINDS {
             let times: Vec<f64> = boards.iter().map(|board| time(random, board, kind)).collect();
             let slowest = times.iter().copied().fold(0.0, f64::max);
             let a_second = |time: f64| 1e9 / time;
@@ -69,7 +73,8 @@ fn time(random: &mut Random, board: &second::Board, kind: Kind) -> f64 {
     let file: String = (0..1_000).map(|number| format!("candidate {number}\n{}\n", lines(random))).collect();
     let accepted = Board::accepted(&board.bytes()).expect("an accepted board");
     let began = Instant::now();
-    let marks: Vec<Marked> = candidates("file", black_box(file.as_bytes())).into_iter().map(|candidate| marked(&accepted, "file", candidate)).collect();
+    let sheets = candidates("file", black_box(file.as_bytes()));
+    let marks: Vec<Marked> = sheets.into_iter().map(|candidate| marked(&accepted, "file", candidate)).collect();
     black_box(table(&marks));
     began.elapsed().as_nanos() as f64 / marks.len() as f64
 }

@@ -1,5 +1,5 @@
 //! Random boards: accepted ones of every density, with carriers' numbers of every kind, and damaged ones; every small board; one that is
-//! long to search; and chains.
+//! long to search, one with long routes; and chains.
 
 use crate::random::Random;
 use second::{Board, Zone};
@@ -76,6 +76,14 @@ pub fn worst() -> Board {
         zones.push(Zone { a, b, carrier: 1 + i as u32, heading: (i % 2) as u32 });
     }
     Board { points: exit + around, home: 0, zones }
+}
+
+/// A long free line to home, and at its far end a held zone for each carrier, so that all of them have long routes.
+pub fn fan() -> Board {
+    let (line, held) = (32, 64);
+    let mut zones: Vec<Zone> = (0..line).map(|z| Zone { a: z, b: z + 1, carrier: 0, heading: 0 }).collect();
+    zones.extend((1..=held).map(|carrier| Zone { a: line, b: line + 1, carrier, heading: 1 }));
+    Board { points: line + 2, home: 0, zones }
 }
 
 /// A chain of points from home on with a turning loop at its far end, in which these zones are held, by carriers with heading 1, on the chain toward home.

@@ -80,7 +80,7 @@ pub fn compare_forbidden(bytes: &[u8], position: &Board, [carrier, word]: Move, 
         (Some(moves::Forbidden::OnlyHome), Some(why)) => matches!(why, Forbidden::GateAlone | Forbidden::ForSeveralReasons),
         (Some(moves::Forbidden::Word(Reason::NoSuchZone { .. })), Some(why)) => why == Forbidden::PastTheLastWord,
         (Some(moves::Forbidden::Word(Reason::DoesNotTouch { .. })), Some(why)) => matches!(why, Forbidden::ApartAlone | Forbidden::ForSeveralReasons),
-        (Some(moves::Forbidden::Word(Reason::SameZone)), Some(why)) => why == Forbidden::OwnZoneAlone,
+        (Some(moves::Forbidden::OwnZone), Some(why)) => why == Forbidden::OwnZoneAlone,
         (Some(moves::Forbidden::Word(Reason::HeldBy(holder))), Some(why)) => {
             why == Forbidden::HeldAlone && position.zones[usize::from(word / 2)].held.is_some_and(|held| held.carrier == *holder)
         }

@@ -119,7 +119,8 @@ pub fn as_rows(random: &mut Random, candidates: &[(String, Vec<String>)]) -> Str
 
 /// A cell, in quotes where it has to be and often where not.
 fn cell(random: &mut Random, text: &str) -> String {
-    if text.contains([',', ';', '\t', '"', '\r', '\n']) || random.once_in(3) { format!("\"{}\"", text.replace('"', "\"\"")) } else { text.to_string() }
+    let in_quotes = text.contains([',', ';', '\t', '"', '\r', '\n']) || random.once_in(3);
+    if in_quotes { format!("\"{}\"", text.replace('"', "\"\"")) } else { text.to_string() }
 }
 
 /// Names of every kind, each once.

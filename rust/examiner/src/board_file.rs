@@ -3,7 +3,8 @@
 use crate::board::stride;
 use crate::text::{decoded, lines, number, quoted, said, starts_as_text, Mistake};
 
-/// The bytes that a file says, which the library may refuse, and of a text the line of each.
+/// The bytes that a file says, which the library may refuse, and of a text the line of each. In a readable text the last zone's line says how many
+/// zones there are.
 #[derive(Clone, Debug, PartialEq, Eq)]
 pub struct Given {
     pub bytes: Vec<u8>,
@@ -33,8 +34,8 @@ fn hexadecimal(text: &str) -> Result<Given, Mistake> {
         for digits in said(text).split_whitespace() {
             let mut half = None;
             for c in digits.chars() {
-                let no_digit = || Mistake::new(line, format!("{} is no hexadecimal digit", quoted(&c.to_string())));
-                let value = c.to_digit(16).ok_or_else(no_digit)? as u8;
+                let no_digit = || format!("{} is no hexadecimal digit, and a readable board starts with points", quoted(&c.to_string()));
+                let value = c.to_digit(16).ok_or_else(|| Mistake::new(line, no_digit()))? as u8;
                 match half.take() {
                     None => half = Some(value),
                     Some(high) => {
@@ -69,9 +70,11 @@ fn readable(text: &str) -> Result<Given, Mistake> {
     let Ok(count) = u8::try_from(zones.len()) else {
         return Err(Mistake::new(zones[255].number, "a board has no more than 96 zones"));
     };
+    let last = zones.last().map_or(head, |zone| zone.number);
     let version = if zones.iter().all(|zone| zone.carrier <= 255) { 1 } else { 2 };
     let length = 4 + stride(version) * zones.len();
-    let mut given = Given { bytes: vec![(length / 256) as u8, length as u8, version, points, home, count], lines: vec![head; 6] };
+    let bytes = vec![(length / 256) as u8, length as u8, version, points, home, count];
+    let mut given = Given { bytes, lines: vec![head, head, head, head, head, last] };
     for Line { number, ends, carrier, heading } in zones {
         let [high, low] = carrier.to_be_bytes();
         given.bytes.extend(ends);
@@ -84,13 +87,14 @@ fn readable(text: &str) -> Result<Given, Mistake> {
     Ok(given)
 }
 
-fn byte(said: &str, what: &str) -> Result<u8, String> {
-    number(said, what, 255).map(|n| n as u8)
+/// A number that a byte can say. The library refuses it where it is over the limit, which is said also where no byte can say it.
+fn byte(said: &str, what: &str, limit: u16) -> Result<u8, String> {
+    number(said, what, 255).or_else(|_| number(said, what, limit)).map(|n| n as u8)
 }
 
 fn head_said(line: &str) -> Result<(u8, u8), String> {
     match line.split_whitespace().collect::<Vec<_>>()[..] {
-        ["points", points, "home", home] => Ok((byte(points, "points")?, byte(home, "home")?)),
+        ["points", points, "home", home] => Ok((byte(points, "points", 64)?, byte(home, "home", 63)?)),
         _ => Err("the first line says points and home, as in: points 9 home 0".to_string()),
     }
 }
@@ -101,7 +105,7 @@ fn zone_said(number: usize, line: &str) -> Result<Line, String> {
     let (Some((a, b)), None) = (ends.split_once('-'), parts.next()) else {
         return Err(format!("{} is no zone: write 1-2 for a free one, 1-2 17> or 1-2 <17 for one with carrier 17", quoted(line)));
     };
-    let ends = [byte(a, "point")?, byte(b, "point")?];
+    let ends = [byte(a, "point", 63)?, byte(b, "point", 63)?];
     let Some(held) = held else { return Ok(Line { number, ends, carrier: 0, heading: 0 }) };
     let (carrier, heading) = match (held.strip_prefix('<'), held.strip_suffix('>')) {
         (None, Some(carrier)) => (carrier, 0),

@@ -1,7 +1,8 @@
-//! A file of sheets: one sheet in bytes, readable sheets of one candidate or of several, or a spreadsheet's rows.
+//! A file of sheets: one sheet in bytes, readable sheets of one candidate or of several, or a spreadsheet's rows. What can't be told for sure is
+//! malformed, so that no candidate vanishes and no sheet is taken for another.
 
 use crate::csv::{separator, Row, Rows};
-use crate::sheet::sheet;
+use crate::sheet::{holds_line, is_line, sheet, starts_line};
 use crate::text::{decoded, lines, said, Mistake};
 
 /// A candidate's sheet in words, or why it is malformed.
@@ -14,24 +15,25 @@ pub struct Candidate {
 /// The candidates of a file in their order. A sheet without a candidate's name goes by the file's.
 pub fn candidates(file_name: &str, file: &[u8]) -> Vec<Candidate> {
     let own_name = |sheet| vec![Candidate { name: file_name.to_string(), sheet }];
-    if file.is_empty() {
-        return own_name(Ok(Vec::new()));
-    }
-    if starts_as_words(file) {
+    // A sheet in bytes that could pass starts so, and no text does.
+    if file.first() == Some(&0) {
         return own_name(words(file));
     }
     let text = decoded(file);
-    let first = lines(&text).map(|(_, line)| line).find(|line| !said(line).is_empty());
-    match first.filter(|line| !starts_readable(line)).and_then(separator) {
-        Some(separator) => Rows::new(&text, separator).enumerate().filter_map(|(row, cells)| of_row(row, cells)).collect(),
-        None => of_lines(file_name, &text),
+    if let Some((line, _)) = lines(&text).find(|(_, line)| line.contains('\0')) {
+        return own_name(Err(Mistake::new(line, "a byte 0, which no text has; a text is to be in UTF-8")));
     }
-}
-
-/// Whether a file starts as a sheet in bytes that could pass, with the byte 0; or with another control character that no text starts with. A text may
-/// start with any letter, for it may be a name's.
-fn starts_as_words(file: &[u8]) -> bool {
-    file.first().is_some_and(|byte| matches!(byte, 0..=8 | 14..=31))
+    let several = lines(&text).any(|(_, line)| candidate_said(line).is_some());
+    let first = lines(&text).map(|(_, line)| said(line)).find(|line| !line.is_empty());
+    match first {
+        None if text.trim().is_empty() => own_name(Ok(Vec::new())),
+        None => own_name(Err(Mistake::new(1, "nothing but comments"))),
+        Some(first) if several || is_line(first) => of_lines(file_name, &text),
+        Some(_) => match separator(&text).filter(|&separator| starts_with_name(&text, separator)) {
+            Some(separator) => of_rows(&text, separator),
+            None => of_lines(file_name, &text),
+        },
+    }
 }
 
 /// A sheet in bytes: its words, high byte first.
@@ -44,29 +46,21 @@ fn words(file: &[u8]) -> Result<Vec<u16>, Mistake> {
 
 /// The name that a `candidate` line says. A `#` with white space on both sides starts a comment; one in a name, as in `Team #2`, doesn't.
 fn candidate_said(line: &str) -> Option<&str> {
-    let rest = line.trim().strip_prefix("candidate")?;
-    let apart = |part: &str, at: usize| {
-        let around = [part[..at].chars().next_back(), part[at + 1..].chars().next()];
-        around.into_iter().all(|c| c.is_none_or(char::is_whitespace))
-    };
-    let end = rest.match_indices('#').find(|&(at, _)| apart(rest, at)).map_or(rest.len(), |(at, _)| at);
-    (rest.is_empty() || rest.starts_with(char::is_whitespace)).then_some(rest[..end].trim())
-}
-
-fn starts_readable(line: &str) -> bool {
-    let word = line.split_whitespace().next().unwrap_or_default();
-    ["candidate", "home", "blocked", "board", "verdict"].contains(&word)
+    let (word, rest) = line.trim().split_once(char::is_whitespace).unwrap_or((line.trim(), ""));
+    let apart = |at: usize| [rest[..at].chars().next_back(), rest[at + 1..].chars().next()].into_iter().all(|c| c.is_none_or(char::is_whitespace));
+    let end = rest.match_indices('#').map(|(at, _)| at).find(|&at| apart(at)).unwrap_or(rest.len());
+    word.eq_ignore_ascii_case("candidate").then_some(rest[..end].trim())
 }
 
 /// One sheet, or one after each `candidate` line.
 fn of_lines(file_name: &str, text: &str) -> Vec<Candidate> {
-    let all: Vec<(usize, &str)> = lines(text).collect();
+    let all: Vec<(usize, &str)> = lines(text).filter(|(_, line)| !line.trim().is_empty()).collect();
     let starts: Vec<usize> = (0..all.len()).filter(|&at| candidate_said(all[at].1).is_some()).collect();
     let of = |part: &[(usize, &str)]| sheet(part.iter().map(|&(number, line)| (number, said(line))).filter(|(_, line)| !line.is_empty()));
     let Some(&first) = starts.first() else { return vec![Candidate { name: file_name.to_string(), sheet: of(&all) }] };
     let mut found = Vec::new();
     if let Some(&(line, _)) = all[..first].iter().find(|(_, line)| !said(line).is_empty()) {
-        found.push(Candidate { name: file_name.to_string(), sheet: Err(Mistake::new(line, "a line of a sheet before the first candidate")) });
+        found.push(Candidate { name: file_name.to_string(), sheet: Err(Mistake::new(line, "a line before the first candidate")) });
     }
     for (k, &start) in starts.iter().enumerate() {
         let end = starts.get(k + 1).copied().unwrap_or(all.len());
@@ -76,22 +70,47 @@ fn of_lines(file_name: &str, text: &str) -> Vec<Candidate> {
     found
 }
 
-/// A candidate, who must have a name.
+/// A candidate, whose name is one.
 fn named(line: usize, name: &str, sheet: Result<Vec<u16>, Mistake>) -> Candidate {
-    if name.is_empty() {
-        return Candidate { name: "(no name)".to_string(), sheet: Err(Mistake::new(line, "a candidate without a name")) };
-    }
-    Candidate { name: name.to_string(), sheet }
+    let mistaken = match name {
+        "" => Some("a candidate without a name"),
+        name if name.contains('\n') => Some("a name over several lines"),
+        name if holds_line(name) => Some("a line of a sheet in a name"),
+        _ => None,
+    };
+    let name = if name.is_empty() { "(no name)" } else { name };
+    Candidate { name: name.to_string(), sheet: mistaken.map_or(sheet, |what| Err(Mistake::new(line, what))) }
 }
 
-/// A row of a spreadsheet: the name, then cells, each of which holds lines of a sheet, in which the word `home` may be left out. Rows without a text
-/// and a first row that starts with `name`, the columns' heads, are none.
-fn of_row(row: usize, Row { cells, mistake }: Row) -> Option<Candidate> {
-    let (name, entries) = cells.split_first()?;
-    let heads = row == 0 && name.text.trim().eq_ignore_ascii_case("name");
-    if heads || mistake.is_none() && cells.iter().all(|cell| cell.text.trim().is_empty()) {
-        return None;
-    }
+/// The rows of a spreadsheet, the first of which may have the columns' heads.
+fn of_rows(text: &str, separator: char) -> Vec<Candidate> {
+    let mut rows = Rows::new(text, separator).filter(Row::says).peekable();
+    rows.next_if(heads);
+    rows.map(|row| of_row(separator, row)).collect()
+}
+
+/// Whether the first row starts with what could be a name. Otherwise the text is lines with a comma among them.
+fn starts_with_name(text: &str, separator: char) -> bool {
+    Rows::new(text, separator).find(Row::says).is_some_and(|row| !holds_line(row.cells[0].text.trim()))
+}
+
+/// Whether a row is the columns' heads: it starts with `name`, and nothing in it could be a sheet's.
+fn heads(row: &Row) -> bool {
+    let head = |text: &str| !text.contains('\n') && !starts_line(text.trim());
+    row.mistake.is_none() && row.cells[0].text.trim().eq_ignore_ascii_case("name") && row.cells[1..].iter().all(|cell| head(&cell.text))
+}
+
+/// A row: the name, then cells, each of which holds lines of a sheet, in which the word `home` may be left out.
+fn of_row(separator: char, Row { cells, mistake }: Row) -> Candidate {
+    let (name, entries) = (&cells[0], &cells[1..]);
+    let wrong = |what: String| Some(Mistake::new(name.line, what));
+    let mistake = mistake.or_else(|| match entries {
+        [] => wrong(format!("a row is a name and cells for its sheet, and no {separator:?} parts them here")),
+        _ if name.text.trim().starts_with('#') && entries.iter().all(|cell| cell.text.trim().is_empty()) => {
+            wrong("a comment, or a candidate without a sheet".to_string())
+        }
+        _ => None,
+    });
     let entry_lines: Vec<(usize, String)> = entries
         .iter()
         .flat_map(|cell| lines(&cell.text).map(|(number, line)| (cell.line + number - 1, said(line))))
@@ -99,5 +118,5 @@ fn of_row(row: usize, Row { cells, mistake }: Row) -> Option<Candidate> {
         .map(|(number, line)| (number, if line.starts_with(|c: char| c.is_ascii_digit()) { format!("home {line}") } else { line.to_string() }))
         .collect();
     let said = mistake.map_or_else(|| sheet(entry_lines.iter().map(|(number, line)| (*number, line.as_str()))), Err);
-    Some(named(name.line, name.text.trim(), said))
+    named(name.line, name.text.trim(), said)
 }

@@ -6,12 +6,12 @@ use crate::{Stop, HELP};
 use examiner::board::{standings_shown, Board};
 use examiner::board_file::hexadecimal_shown;
 use examiner::candidates::{candidates, Candidate};
-use examiner::marks::{counts, malformed, marked, rows, table, Marked};
+use examiner::marks::{counts, malformed, marked, rows, shared_names, table, Marked};
 use examiner::moves::{self, forbidden, move_shown, Log};
 use examiner::page::page;
 use examiner::refused;
 use nizkabel::owned::{self, Refused};
-use nizkabel::POSITION_ROOM;
+use nizkabel::{COPY_ROOM, POSITION_ROOM};
 use std::ffi::{OsStr, OsString};
 
 /// The command's files and options.
@@ -42,7 +42,7 @@ fn arguments<'a>(given: &'a [OsString], options: &[&str]) -> Result<Arguments<'a
             _ => found.files.push(argument),
         }
     }
-    if found.files.iter().filter(|&&file| file == "-").count() > 1 {
+    if found.files.iter().filter(|&&file| files::is_input(file)).count() > 1 {
         return Err(usage("standard input is one file"));
     }
     if found.has("--bytes") && found.has("--hex") {
@@ -97,9 +97,10 @@ fn key(arguments: Arguments) -> Result<u8, Stop> {
     let [file] = arguments.files[..] else { return Err(usage("key takes one board")) };
     let given = files::given(file)?;
     print(page(&given.bytes))?;
+    let too_long = if given.bytes.len() > COPY_ROOM { "too long, " } else { "" };
     match Board::accepted(&given.bytes) {
         Ok(_) => Ok(0),
-        Err(refused) => Err(Stop::turned_back(format!("{}: {}", name(file), refused::in_words(refused, &given)))),
+        Err(refused) => Err(Stop::turned_back(format!("{}: {too_long}{}", name(file), refused::in_words(refused, &given)))),
     }
 }
 
@@ -121,6 +122,9 @@ fn mark(arguments: Arguments) -> Result<u8, Stop> {
         say(counts(&marks).trim_end());
     } else {
         print(table(&marks))?;
+    }
+    for (name, sheets) in shared_names(&marks) {
+        say(&format!("{sheets} sheets have the name {name}"));
     }
     match malformed(&marks) {
         0 => Ok(0),

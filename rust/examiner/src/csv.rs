@@ -17,10 +17,27 @@ pub struct Row {
     pub mistake: Option<Mistake>,
 }
 
-/// What parts the cells of a text: a tab where its first line has one outside of quotes, else a semicolon, else a comma.
-pub fn separator(first_line: &str) -> Option<char> {
-    let bare: String = first_line.split('"').step_by(2).collect();
-    ['\t', ';', ','].into_iter().find(|&separator| bare.contains(separator))
+impl Row {
+    /// Whether it is more than empty cells, a comment without another cell, or the line by which some spreadsheets say what parts cells.
+    pub fn says(&self) -> bool {
+        let (first, rest) = (self.cells[0].text.trim(), &self.cells[1..]);
+        let empty = |cell: &Cell| cell.text.trim().is_empty();
+        let comment = rest.is_empty() && first.starts_with('#');
+        let passed_over = first.is_empty() || comment || first == "sep=";
+        self.mistake.is_some() || !(passed_over && rest.iter().all(empty))
+    }
+}
+
+/// What parts the cells of a text: a tab, a semicolon or a comma, whichever parts its first row and the most rows in all; the first of these where
+/// two part as many.
+pub fn separator(text: &str) -> Option<char> {
+    let parted = |separator: char| {
+        let mut rows = Rows::new(text, separator).filter(Row::says).map(|row| row.cells.len() > 1).peekable();
+        if rows.peek() == Some(&true) { rows.filter(|&parted| parted).count() } else { 0 }
+    };
+    let parting = [',', ';', '\t'].into_iter().map(|separator| (parted(separator), separator)).filter(|&(rows, _)| rows > 0);
+    // Of several that are greatest, the last is taken.
+    parting.max_by_key(|&(rows, _)| rows).map(|(_, separator)| separator)
 }
 
 /// The rows of a text. A cell in quotes may hold separators, line ends, and a quote written twice.
@@ -56,7 +73,8 @@ impl<'a> Rows<'a> {
                     Some('"') if self.rest.next_if_eq(&'"').is_none() => break,
                     Some(c) => cell.text.push(c),
                     None => {
-                        let mistake = Mistake::new(cell.line, "a quote that opens a cell isn't closed, and the file ends in it");
+                        let what = format!("a quote that opens a cell isn't closed, so all up to line {}, the last, is in that cell", self.line);
+                        let mistake = Mistake::new(cell.line, what);
                         return (cell, Some(mistake), None);
                     }
                 }

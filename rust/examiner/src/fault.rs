@@ -2,8 +2,9 @@
 //! words for a word that the marker turns back are read off the board, in a fixed order.
 
 use crate::board::Board;
-use crate::text::{numbers, word_shown};
+use crate::text::{numbers_cut, word_shown};
 use nizkabel::owned;
+use std::collections::HashSet;
 use std::fmt;
 
 /// A place in a sheet, counted from 0, and the number that the sheet has there: an entry's carrier, a word.
@@ -193,12 +194,8 @@ impl Asked<'_> {
     fn false_claim(&self) -> Reason {
         let claim = &self.sheet[1..];
         let blocked = owned::collapse(self.board.bytes()).unwrap_or_default();
-        let mut too_many: Vec<u16> = Vec::new();
-        for &carrier in claim {
-            if !blocked.contains(&carrier) && !too_many.contains(&carrier) {
-                too_many.push(carrier);
-            }
-        }
+        let mut seen = HashSet::new();
+        let too_many = claim.iter().copied().filter(|carrier| !blocked.contains(carrier) && seen.insert(*carrier)).collect();
         let too_few = blocked.iter().copied().filter(|carrier| !claim.contains(carrier)).collect();
         let not_ascending = (1..claim.len()).find(|&place| claim[place] <= claim[place - 1]).map(|place| At { place, said: claim[place] });
         Reason::Claim { blocked, too_many, too_few, not_ascending }
@@ -236,12 +233,12 @@ impl fmt::Display for Reason {
             Reason::HeldBy(carrier) => write!(f, "held by {carrier}"),
             Reason::BreaksRules => write!(f, "breaks the moving rules"),
             Reason::LeavesElsewhere { point } => write!(f, "leaves at point {point}"),
-            Reason::StillOut(carriers) => write!(f, "{}", numbers(carriers)),
+            Reason::StillOut(carriers) => write!(f, "{}", numbers_cut(carriers)),
             Reason::Claim { blocked, .. } if blocked.is_empty() => write!(f, "no carrier is blocked"),
             Reason::Claim { too_many, too_few, not_ascending, .. } => {
-                let list = |what: &str, carriers: &[u16]| (!carriers.is_empty()).then(|| format!("{what}: {}", numbers(carriers)));
+                let list = |what: &str, carriers: &[u16]| (!carriers.is_empty()).then(|| format!("{what}: {}", numbers_cut(carriers)));
                 let order = not_ascending.map(|at| format!("not ascending: {} in place {}", at.said, at.place + 1));
-                let parts = [list("too many", too_many), list("too few, without", too_few), order];
+                let parts = [list("named but not blocked", too_many), list("blocked but not named", too_few), order];
                 write!(f, "{}", parts.into_iter().flatten().collect::<Vec<_>>().join("; "))
             }
         }

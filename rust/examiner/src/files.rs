@@ -10,9 +10,18 @@ use std::fs::File;
 use std::io::{self, ErrorKind, IsTerminal, Read, Write};
 use std::os::fd::AsFd;
 
+/// Whether a file is standard input, under whichever name.
+pub fn is_input(file: &OsStr) -> bool {
+    ["-", "/dev/stdin", "/dev/fd/0", "/proc/self/fd/0"].iter().any(|name| file == *name)
+}
+
 /// How a file is called in what the program says.
 pub fn name(file: &OsStr) -> String {
-    if file == "-" { "standard input".to_string() } else { shown(&file.to_string_lossy()) }
+    match file.to_string_lossy() {
+        _ if is_input(file) => "standard input".to_string(),
+        name if name.is_empty() => "\"\"".to_string(),
+        name => shown(&name),
+    }
 }
 
 /// The reason that the system gives, without its number.
@@ -24,8 +33,8 @@ fn reason(error: &io::Error) -> String {
 /// The first bytes of a file, at most so many and one more, which tells that there are more.
 fn read(file: &OsStr, most: usize) -> Result<Vec<u8>, Stop> {
     // Of a standard input that is closed or can't be read, std would make an empty one.
-    let opened = if file == "-" { io::stdin().as_fd().try_clone_to_owned().map(File::from) } else { File::open(file) };
-    if file == "-" && io::stdin().is_terminal() {
+    let opened = if is_input(file) { io::stdin().as_fd().try_clone_to_owned().map(File::from) } else { File::open(file) };
+    if is_input(file) && io::stdin().is_terminal() {
         say("reading from the terminal, up to Ctrl-D");
     }
     let mut bytes = Vec::new();
@@ -40,7 +49,7 @@ fn read(file: &OsStr, most: usize) -> Result<Vec<u8>, Stop> {
 }
 
 /// No file of sheets or moves has more bytes.
-const MOST: usize = 1 << 28;
+const MOST: usize = 1 << 25;
 
 /// A file of sheets or moves, whole.
 pub fn whole(file: &OsStr) -> Result<Vec<u8>, Stop> {

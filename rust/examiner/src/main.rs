@@ -45,7 +45,7 @@ Board    points 9 home 0     nine points, the home point is 0
 Sheets   candidate Anna      a name before each sheet, where a file has several
          home 7: 0+ 1-       carrier 7 goes home through zone 0 from its first end to its second, then back through 1
          blocked 5 6         or these carriers are blocked; `blocked none` may stand with home lines, or alone
-         or rows of a spreadsheet: the name, then a cell for each such line; or one sheet's words, two bytes each
+         or rows of a spreadsheet (CSV): the name, then a cell for each such line; or one sheet's words, two bytes each
 Log      7 1-                carrier 7 goes into zone 1, heading from its second end to its first
          7 home              carrier 7 goes into home
          or its words, two bytes each

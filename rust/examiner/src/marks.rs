@@ -4,7 +4,7 @@ use crate::board::Board;
 use crate::candidates::Candidate;
 use crate::csv;
 use crate::fault::{mark, meaning, At, Fault};
-use crate::text::{shown, word_shown};
+use crate::text::shown;
 use std::collections::BTreeMap;
 
 /// What came of a sheet: the library's mark with the place of the fault, or where and why it is malformed.
@@ -62,19 +62,32 @@ pub fn malformed(marks: &[Marked]) -> usize {
     marks.iter().filter(|marked| matches!(marked.outcome, Outcome::Malformed(_))).count()
 }
 
-/// A spreadsheet's rows, the columns' heads first. Of a malformed sheet the number is empty.
+/// The names that several sheets have, and how many: two candidates, or one sheet twice.
+pub fn shared_names(marks: &[Marked]) -> Vec<(String, usize)> {
+    let mut sheets: BTreeMap<&str, usize> = BTreeMap::new();
+    for marked in marks {
+        *sheets.entry(&marked.name).or_insert(0) += 1;
+    }
+    sheets.into_iter().filter(|&(_, count)| count > 1).map(|(name, count)| (shown(name), count)).collect()
+}
+
+/// A spreadsheet's rows, the columns' heads first. Of a malformed sheet the number is empty. A zone's heading is said in words: a spreadsheet might
+/// take `3-` for a number.
 pub fn rows(marks: &[Marked]) -> String {
-    let heads = csv::row(&["name", "number", "meaning", "entry", "carrier", "word", "zone", "reason"]);
-    let place = |at: Option<At>| at.map(|at| (at.place + 1).to_string()).unwrap_or_default();
-    let row = |marked: &Marked| match &marked.outcome {
-        Outcome::Marked(number, None) => csv::row(&[&marked.name, &number.to_string(), meaning(*number), "", "", "", "", ""]),
-        Outcome::Marked(number, Some(fault)) => {
-            let carrier = fault.entry.map(|at| at.said.to_string()).unwrap_or_default();
-            let zone = fault.word.map(|at| word_shown(at.said)).unwrap_or_default();
-            let (entry, word, reason) = (place(fault.entry), place(fault.word), fault.reason.to_string());
-            csv::row(&[&marked.name, &number.to_string(), meaning(*number), &entry, &carrier, &word, &zone, &reason])
-        }
-        Outcome::Malformed(why) => csv::row(&[&marked.name, "", "malformed", "", "", "", "", why]),
+    let heads = csv::row(&["name", "number", "meaning", "entry", "carrier", "word", "zone", "heading", "reason"]);
+    let number = |number: Option<usize>| number.map(|n| n.to_string()).unwrap_or_default();
+    let row = |marked: &Marked| {
+        let name = shown(&marked.name);
+        let (mark, fault) = match &marked.outcome {
+            Outcome::Marked(mark, fault) => (mark, fault),
+            Outcome::Malformed(why) => return csv::row(&[&name, "", "malformed", "", "", "", "", "", &shown(why)]),
+        };
+        let (entry, word) = (fault.as_ref().and_then(|fault| fault.entry), fault.as_ref().and_then(|fault| fault.word));
+        let place = |at: Option<At>| number(at.map(|at| at.place + 1));
+        let (carrier, zone) = (number(entry.map(|at| at.said.into())), number(word.map(|at| usize::from(at.said / 2))));
+        let heading = word.map_or("", |at| if at.said % 2 == 0 { "A to B" } else { "B to A" });
+        let reason = fault.as_ref().map(|fault| fault.reason.to_string()).unwrap_or_default();
+        csv::row(&[&name, &mark.to_string(), meaning(*mark), &place(entry), &carrier, &place(word), &zone, heading, &reason])
     };
     marks.iter().fold(heads, |rows, marked| rows + &row(marked))
 }

@@ -21,10 +21,14 @@ impl Log {
     }
 }
 
-/// Reads a log's file. It is bytes where it holds a byte 0 or 255: a text has none, and every move has one that the rules could allow.
+/// Reads a log's file. It is bytes where it holds a byte 0, or 255 twice in a row: a text doesn't, and every move does that the rules could allow. A
+/// text in UTF-16, which has a byte 0 too, starts with a mark.
 pub fn read(file: &[u8]) -> Result<Log, Mistake> {
-    if !file.iter().any(|byte| [0, 255].contains(byte)) {
+    if !file.contains(&0) && !file.windows(2).any(|pair| pair == [255, 255]) {
         return readable(&decoded(file));
+    }
+    if file.starts_with(&[255, 254]) || file.starts_with(&[254, 255]) {
+        return Err(Mistake::new(1, "a text is to be in UTF-8, and this one is in UTF-16"));
     }
     match file.chunks_exact(2) {
         pairs if pairs.remainder().is_empty() => {
@@ -68,6 +72,7 @@ pub enum Forbidden {
     OnlyHome,
     /// As for a word of a sheet.
     Word(Reason),
+    OwnZone,
 }
 
 /// Why the rules forbid a move, as the board has it whose position is the one before the move; none where no reason fits.
@@ -88,7 +93,7 @@ pub fn forbidden(board: &Board, carrier: u16, word: u16) -> Option<Forbidden> {
         return Some(Forbidden::Word(Reason::DoesNotTouch { leaves, starts }));
     }
     if standing / 2 == word / 2 {
-        return Some(Forbidden::Word(Reason::SameZone));
+        return Some(Forbidden::OwnZone);
     }
     board.zones[usize::from(word / 2)].held.map(|held| Forbidden::Word(Reason::HeldBy(held.carrier)))
 }
@@ -100,6 +105,7 @@ impl fmt::Display for Forbidden {
             Forbidden::NotHome { leaves } => write!(f, "it leaves at point {leaves}, not at home"),
             Forbidden::OnlyHome => write!(f, "it heads for home and goes nowhere else"),
             Forbidden::Word(reason) => write!(f, "{reason}"),
+            Forbidden::OwnZone => write!(f, "it stands in that zone"),
         }
     }
 }

@@ -130,11 +130,13 @@ impl fmt::Display for Wrong {
     fn fmt(&self, f: &mut fmt::Formatter<'_>) -> fmt::Result {
         match self {
             Wrong::Short { bytes } => write!(f, "{bytes} bytes"),
+            // Of a file that is longer no more is read.
+            Wrong::Length { said, follow: 65_536.. } => write!(f, "L says {said}, and over 65535 bytes follow"),
             Wrong::Length { said, follow } => write!(f, "L says {said}, and {follow} bytes follow"),
             Wrong::Version(version) => write!(f, "version {version}"),
-            Wrong::Points(points) => write!(f, "points {points}, which are 2 to 64"),
-            Wrong::Home { home, points } => write!(f, "home {home}, which is below {points}, the count of points"),
-            Wrong::Zones(zones) => write!(f, "zones {zones}, which are 2 to 96"),
+            Wrong::Points(points) => write!(f, "points {points}; a board has 2 to 64"),
+            Wrong::Home { home, points } => write!(f, "home {home}; it must be below {points}, the count of points"),
+            Wrong::Zones(zones) => write!(f, "zones {zones}; a board has 2 to 96"),
             Wrong::ZoneBytes { said, needed } => write!(f, "L says {said}, and the zones need {needed}"),
             Wrong::End { zone, end } => write!(f, "zone {zone}: there is no point {end}"),
             Wrong::Heading { zone, heading } => write!(f, "zone {zone}: heading {heading}"),
@@ -151,7 +153,8 @@ impl fmt::Display for Wrong {
 pub fn in_words(refused: Refused, given: &Given) -> String {
     let Some(wrong) = Wrong::by_row(refused.number(), &given.bytes) else { return refused.to_string() };
     let version = given.bytes.get(2).copied().unwrap_or_default();
-    let lines: Vec<String> = wrong.places(version).iter().filter_map(|&place| given.lines.get(place)).map(|line| line.to_string()).collect();
+    let mut lines: Vec<String> = wrong.places(version).iter().filter_map(|&place| given.lines.get(place)).map(|line| line.to_string()).collect();
+    lines.dedup();
     match &lines[..] {
         [] => format!("{refused}: {wrong}"),
         [line] => format!("{refused}: {wrong}, line {line}"),

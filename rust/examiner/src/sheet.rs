@@ -24,9 +24,31 @@ fn line_said(line: &str) -> Result<Line, String> {
         "blocked" if rest.trim() == "none" => Ok(Line::BlockedNone),
         "blocked" if rest.trim().is_empty() => Err("blocked says none, or the carriers that are".to_string()),
         "blocked" => rest.split_whitespace().map(carrier).collect::<Result<_, _>>().map(Line::Blocked),
+        "board" | "verdict" if [":", "home", "blocked"].iter().any(|part| rest.contains(part)) => {
+            Err(format!("more than a {word} line, which is passed over"))
+        }
         "board" | "verdict" => Ok(Line::PassedOver),
         _ => Err(format!("{} starts no line of a sheet: those are home and blocked", quoted(word))),
     }
+}
+
+/// Whether a text is a line of a sheet.
+pub fn is_line(text: &str) -> bool {
+    line_said(text).is_ok()
+}
+
+/// Whether a text starts as a line of a sheet, or as one without the word `home`.
+pub fn starts_line(text: &str) -> bool {
+    ["home", "blocked"].iter().any(|word| text.starts_with(word)) || text.starts_with(|c: char| c.is_ascii_digit())
+}
+
+/// Whether a text holds a line of a sheet from some word on to its end, with the word `home` or without.
+pub fn holds_line(text: &str) -> bool {
+    let words = text.split_whitespace().map(|word| word.as_ptr() as usize - text.as_ptr() as usize);
+    words.map(|start| &text[start..]).any(|rest| match line_said(rest) {
+        Ok(Line::Home(_) | Line::BlockedNone | Line::Blocked(_)) => true,
+        _ => entry_said(rest).is_ok_and(|entry| entry.len() > 2),
+    })
 }
 
 /// `7: 0+ 1-`, or without a word.

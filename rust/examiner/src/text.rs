@@ -1,5 +1,6 @@
 //! Texts: their characters, lines and numbers, and mistakes in them.
 
+use nizkabel::LIST_ROOM;
 use std::borrow::Cow;
 use std::fmt;
 
@@ -30,18 +31,24 @@ pub fn starts_as_text(file: &[u8]) -> bool {
     file.starts_with(MARK) || file.first().is_some_and(|byte| matches!(byte, 9..=13 | 32..=126))
 }
 
-/// The characters of a text in UTF-8, or else in Latin-1, in which each byte is a character.
+/// The characters of a text in UTF-8; those of a line that isn't are taken for Latin-1, in which each byte is a character.
 pub fn decoded(file: &[u8]) -> Cow<'_, str> {
     let file = file.strip_prefix(MARK).unwrap_or(file);
     match std::str::from_utf8(file) {
         Ok(text) => Cow::Borrowed(text),
-        Err(_) => Cow::Owned(file.iter().map(|&byte| char::from(byte)).collect()),
+        Err(_) => Cow::Owned(file.split_inclusive(|&byte| byte == b'\n').map(decoded_line).collect()),
     }
 }
 
-/// The lines with their numbers. A line ends with a line feed, a carriage return, or both.
+fn decoded_line(line: &[u8]) -> String {
+    String::from_utf8(line.to_vec()).unwrap_or_else(|_| line.iter().map(|&byte| char::from(byte)).collect())
+}
+
+/// The lines with their numbers. A line ends with a line feed, a carriage return, or both. Where texts were put one after another, one may start with
+/// the mark of UTF-8.
 pub fn lines(text: &str) -> impl Iterator<Item = (usize, &str)> {
-    (1..).zip(text.split('\n').flat_map(|line| line.strip_suffix('\r').unwrap_or(line).split('\r')))
+    let lines = text.split('\n').flat_map(|line| line.strip_suffix('\r').unwrap_or(line).split('\r'));
+    (1..).zip(lines.map(|line| line.trim_start_matches('\u{FEFF}')))
 }
 
 /// A line without its comment and the white space around it.
@@ -77,9 +84,19 @@ pub fn numbers(list: &[u16]) -> String {
     list.iter().map(|n| n.to_string()).collect::<Vec<_>>().join(" ")
 }
 
-/// A text from a file as it is shown on one line: control characters are escaped, which could move a terminal's cursor.
+/// As many of the numbers as a board can have carriers, and how many more there are.
+pub fn numbers_cut(list: &[u16]) -> String {
+    match list.get(LIST_ROOM..) {
+        Some(more) if !more.is_empty() => format!("{} and {} more", numbers(&list[..LIST_ROOM]), more.len()),
+        _ => numbers(list),
+    }
+}
+
+/// A text from a file as it is shown on one line. Characters are escaped that could move a terminal's cursor, turn the order of those around them, or
+/// not be seen.
 pub fn shown(text: &str) -> String {
-    text.chars().map(|c| if c.is_control() { c.escape_default().to_string() } else { c.to_string() }).collect()
+    let escaped = |c: char| c.is_control() || matches!(c, '\u{200B}'..='\u{200F}' | '\u{2028}'..='\u{202E}' | '\u{2060}'..='\u{2069}' | '\u{FEFF}');
+    text.chars().map(|c| if escaped(c) { c.escape_unicode().to_string() } else { c.to_string() }).collect()
 }
 
 /// Part of a text in quotes.

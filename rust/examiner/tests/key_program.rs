@@ -8,7 +8,9 @@ use std::process::{Command, Stdio};
 
 /// What a program prints when it reads these bytes.
 fn printed(program: &Path, arguments: &[&str], input: &[u8]) -> Vec<u8> {
-    let mut running = Command::new(program).args(arguments).stdin(Stdio::piped()).stdout(Stdio::piped()).stderr(Stdio::null()).spawn().expect("it starts");
+    let mut command = Command::new(program);
+    command.args(arguments).stdin(Stdio::piped()).stdout(Stdio::piped()).stderr(Stdio::null());
+    let mut running = command.spawn().expect("it starts");
     running.stdin.take().expect("its input").write_all(input).expect("it reads");
     running.wait_with_output().expect("it ends").stdout
 }

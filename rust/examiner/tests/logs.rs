@@ -30,6 +30,9 @@ fn mistakes_have_their_lines() {
     assert_eq!(words(b"7"), Err("1: \"7\" is no move: write 7 1- for carrier 7 into zone 1, 7 home into home".to_string()));
     assert_eq!(words(b"home 7: 0+"), Err("1: \"home 7: 0+\" is no move: write 7 1- for carrier 7 into zone 1, 7 home into home".to_string()));
     assert_eq!(words(b"x home"), Err("1: carrier \"x\" is no number".to_string()));
+    assert_eq!(words(b"\xFF\xFE7\0 \0"), Err("1: a text is to be in UTF-8, and this one is in UTF-16".to_string()));
+    assert_eq!(words(b"7 1- # \xFF\n"), Ok(vec![7, 3]));
+    assert_eq!(words(b"AB\xFF\xFF"), Ok(vec![0x4142, HOME]));
     assert_eq!(words(&[0, 7, 0]), Err("1: a log in bytes has two for each word, and these are 3".to_string()));
 }
 
@@ -45,6 +48,6 @@ fn why_a_move_is_forbidden() {
     assert_eq!(why(5, 0).as_deref(), Some("it heads for home and goes nowhere else"));
     assert_eq!(why(6, 8).as_deref(), Some("no such zone; the last is 3"));
     assert_eq!(why(6, 0).as_deref(), Some("doesn't touch: starts at point 0, not at 2"));
-    assert_eq!(why(6, 3).as_deref(), Some("the same zone again"));
+    assert_eq!(why(6, 3).as_deref(), Some("it stands in that zone"));
     assert_eq!(why(6, 5).as_deref(), Some("held by 7"));
 }

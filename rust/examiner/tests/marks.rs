@@ -46,16 +46,17 @@ fn every_reason_in_words() {
     let far_loop = board("points 4 home 0\n0-1 5>\n1-2 6>\n2-3\n2-3");
     let claim = "35  false claim of blocked";
     assert_eq!(line(&far_loop, &[1, 5, 6]), " 0  right");
-    assert_eq!(line(&far_loop, &[1, 5, 6, 7]), format!("{claim}: too many: 7"));
-    assert_eq!(line(&far_loop, &[1, 6]), format!("{claim}: too few, without: 5"));
+    assert_eq!(line(&far_loop, &[1, 5, 6, 7]), format!("{claim}: named but not blocked: 7"));
+    assert_eq!(line(&far_loop, &[1, 6]), format!("{claim}: blocked but not named: 5"));
     assert_eq!(line(&far_loop, &[1, 6, 5]), format!("{claim}: not ascending: 5 in place 2"));
-    assert_eq!(line(&far_loop, &[1, 4, 4]), format!("{claim}: too many: 4; too few, without: 5 6; not ascending: 4 in place 2"));
+    assert_eq!(line(&far_loop, &[1, 4, 4]), format!("{claim}: named but not blocked: 4; blocked but not named: 5 6; not ascending: 4 in place 2"));
 }
 
 #[test]
 fn lines_rows_and_counts() {
     let k = board("points 2 home 0\n0-1 7>\n0-1");
-    let file = "candidate Anna\nhome 7: 0+ 1-\ncandidate =1+1\nhome 7: 0+ 0-\ncandidate Cy, \"late\"\x1b[2J\nhome 7\ncandidate D\nblocked 7\ncandidate E\nhome 7: 0+";
+    let sheets = [("Anna", "home 7: 0+ 1-"), ("=1+1", "home 7: 0+ 0-"), ("Cy, \"late\"\x1b[2J", "home 7"), ("D", "blocked 7"), ("E", "home 7: 0+")];
+    let file: String = sheets.iter().map(|(name, line)| format!("candidate {name}\n{line}\n")).collect();
     let marks: Vec<_> = candidates("f", file.as_bytes()).into_iter().map(|candidate| marked(&k, "f", candidate)).collect();
     let expected = [
         "Anna                  0  right",
@@ -67,12 +68,12 @@ fn lines_rows_and_counts() {
     ];
     assert_eq!(table(&marks).lines().collect::<Vec<_>>(), expected);
     let expected = [
-        "name,number,meaning,entry,carrier,word,zone,reason",
-        "Anna,0,right,,,,,",
-        "'=1+1,32,word breaks the moving rules,1,7,2,0-,the same zone again",
-        "\"Cy, \"\"late\"\"\x1b[2J\",,malformed,,,,,\"f:6: a home line is the carrier, a colon and its route, as in: home 7: 0+ 1-\"",
-        "D,35,false claim of blocked,,,,,no carrier is blocked",
-        "E,33,route doesn't leave at home,1,7,1,0+,leaves at point 1",
+        "name,number,meaning,entry,carrier,word,zone,heading,reason",
+        "Anna,0,right,,,,,,",
+        "'=1+1,32,word breaks the moving rules,1,7,2,0,B to A,the same zone again",
+        "\"Cy, \"\"late\"\"\\u{1b}[2J\",,malformed,,,,,,\"f:6: a home line is the carrier, a colon and its route, as in: home 7: 0+ 1-\"",
+        "D,35,false claim of blocked,,,,,,no carrier is blocked",
+        "E,33,route doesn't leave at home,1,7,1,0,A to B,leaves at point 1",
     ];
     assert_eq!(rows(&marks).lines().collect::<Vec<_>>(), expected);
     assert_eq!(table(&[]), "sheets 0, right 0, wrong 0, malformed 0\n");

@@ -27,8 +27,8 @@ fn lines_say_the_words() {
     assert_eq!(sheet("verdict 20\nblocked 5 6 # both"), Ok(vec![1, 5, 6]));
     assert_eq!(sheet("blocked none"), Ok(vec![0]));
     assert_eq!(sheet(""), Ok(vec![]));
-    assert_eq!(sheet("\n# nothing, at all; really\n"), Ok(vec![]));
-    assert_eq!(sheet("board\nverdict"), Ok(vec![]));
+    assert_eq!(sheet(" \n\r\n"), Ok(vec![]));
+    assert_eq!(sheet("board 4\nverdict"), Ok(vec![]));
     assert_eq!(sheet("\thome  007 :\t0+   32767- \r\n"), Ok(vec![0, 7, 2, 0, 65_535]));
     assert_eq!(sheet("home 65535:"), Ok(vec![0, 65_535, 0]));
     assert_eq!(sheet("home 0: 0+"), Ok(vec![0, 0, 1, 0]));
@@ -53,6 +53,10 @@ fn mistakes_have_their_lines() {
     assert_eq!(sheet("home 7: 32768+"), Err("1: zone 32768 is over 32767".to_string()));
     assert_eq!(sheet("home 65536: 0+"), Err("1: carrier 65536 is over 65535".to_string()));
     assert_eq!(sheet("blocked 65536"), Err("1: carrier 65536 is over 65535".to_string()));
+    assert_eq!(sheet("\n# nothing, at all; really\n"), Err("1: nothing but comments".to_string()));
+    // A page on one line.
+    assert_eq!(sheet("board 2 points verdict 0 home 7: 0+ 1- blocked none"), Err("1: more than a board line, which is passed over".to_string()));
+    assert_eq!(sheet("verdict 20 blocked 7 9"), Err("1: more than a verdict line, which is passed over".to_string()));
     let long = format!("home 7:{}", " 0+".repeat(65_536));
     assert_eq!(sheet(&long), Err("1: a route has no more than 65535 words".to_string()));
 }
@@ -63,14 +67,21 @@ fn several_candidates_in_a_file() {
     assert_eq!(read(file), right(&[("Anna", &[0, 7, 2, 0, 3]), ("Bo #2, late", &[1, 7]), ("Cy", &[])]));
     let mistaken = read("home 7: 0+\ncandidate\nhome 7: 0+\ncandidate Di\nhome 7\ncandidate Ed\nblocked 7");
     let expected = [
-        ("file", Err("1: a line of a sheet before the first candidate".to_string())),
+        ("file", Err("1: a line before the first candidate".to_string())),
         ("(no name)", Err("2: a candidate without a name".to_string())),
         ("Di", Err("5: a home line is the carrier, a colon and its route, as in: home 7: 0+ 1-".to_string())),
         ("Ed", Ok(vec![1, 7])),
     ];
     assert_eq!(mistaken, expected.map(|(name, sheet)| (name.to_string(), sheet)));
-    // A name that isn't in UTF-8.
-    assert_eq!(candidates("file", b"candidate J\xF6rg\nblocked 7")[0].name, "Jörg");
+    assert_eq!(read("\u{FEFF}CANDIDATE Anna\nblocked 7\n\u{FEFF}Candidate Bo\n"), right(&[("Anna", &[1, 7]), ("Bo", &[])]));
+    // The sheet goes on lines of its own.
+    for name in ["Anna home 7: 0+ 1-", "Anna\t7: 0+", "Anna blocked 7"] {
+        assert_eq!(read(&format!("candidate {name}")), [(name.to_string(), Err("1: a line of a sheet in a name".to_string()))]);
+    }
+    assert_eq!(read("candidate Group 2: Anna\nblocked 7"), right(&[("Group 2: Anna", &[1, 7])]));
+    // Names that aren't in UTF-8, beside one that is.
+    let names: Vec<String> = candidates("file", b"candidate J\xF6rg\ncandidate J\xC3\xB6rg").into_iter().map(|c| c.name).collect();
+    assert_eq!(names, ["Jörg", "Jörg"]);
 }
 
 #[test]
@@ -88,17 +99,54 @@ fn rows_of_a_spreadsheet() {
         ("(no name)", Err("3: a candidate without a name".to_string())),
         ("Cy x", Err("4: \" x\" after the quote that closes a cell".to_string())),
         ("Di", Err("7: \"1\" is no zone with + or - for its heading".to_string())),
-        ("Ed", Err("8: a quote that opens a cell isn't closed, and the file ends in it".to_string())),
+        ("Ed", Err("8: a quote that opens a cell isn't closed, so all up to line 10, the last, is in that cell".to_string())),
     ];
     assert_eq!(mistaken, expected.map(|(name, sheet)| (name.to_string(), sheet)));
+}
+
+/// Whatever is odd about a file of rows, no candidate vanishes, none gets another's sheet, and no sheet is taken for an empty one.
+#[test]
+fn odd_rows_are_malformed() {
+    let mistake = |line: usize, what: &str| Err(format!("{line}: {what}"));
+    let expect = |file: &str, expected: &[(&str, Result<Vec<u16>, String>)]| {
+        assert_eq!(read(file), expected.iter().map(|(name, sheet)| (name.to_string(), sheet.clone())).collect::<Vec<_>>(), "{file}");
+    };
+    let seven = || Ok(vec![0, 7, 1, 0]);
+    let open = |line, last| mistake(line, &format!("a quote that opens a cell isn't closed, so all up to line {last}, the last, is in that cell"));
+    let alone = |line, separator| mistake(line, &format!("a row is a name and cells for its sheet, and no {separator} parts them here"));
+    // Heads with a quote, or with a sheet.
+    expect("name,\"entries\nAnna,7: 0+\n", &[("name", open(1, 3))]);
+    expect("name,\"entries\nAnna,\"7: 0+\nBo,7: 0+", &[("name", mistake(2, "\"7: 0+\" after the quote that closes a cell")), ("Bo", seven())]);
+    expect("Name,7: 0+\nBo,7: 0+\n", &[("Name", seven()), ("Bo", seven())]);
+    expect("name,7: 0\nBo,7: 0+\n", &[("name", mistake(1, "\"0\" is no zone with + or - for its heading")), ("Bo", seven())]);
+    // Another separator in some rows.
+    expect("name,entries\nAnna;7: 0+\nBo,7: 0+", &[("Anna;7: 0+", alone(2, "','")), ("Bo", seven())]);
+    expect("Cy; x,7: 0+\nBo,7: 0+\n", &[("Cy; x", seven()), ("Bo", seven())]);
+    expect("Cy, x;7: 0+\nBo;7: 0+\nDi, y;7: 0+", &[("Cy, x", seven()), ("Bo", seven()), ("Di, y", seven())]);
+    let other_heads = mistake(1, "\"one\" starts no line of a sheet: those are home and blocked");
+    expect("name\tentries, one a cell\nAnna,7: 0+\nBo,7: 0+", &[("name\tentries", other_heads), ("Anna", seven()), ("Bo", seven())]);
+    expect("sep=;\nname;entries\nAnna;7: 0+", &[("Anna", seven())]);
+    // Quotes over several rows.
+    expect("Anna,7: 0+\n\"Bo,7: 0+\nCy\",7: 0+\n", &[("Anna", seven()), ("Bo,7: 0+\nCy", mistake(2, "a name over several lines"))]);
+    expect("\"Anna\nAbel\",7: 0+\nBo,7: 0+", &[("Anna\nAbel", mistake(1, "a name over several lines")), ("Bo", seven())]);
+    // Comments, and names that start as one.
+    expect("# room 4\n,,\nname,entries\nAnna,7: 0+\n# absent\n", &[("Anna", seven())]);
+    expect("Anna,7: 0+\n#2,7: 0+\n#3,\n", &[("Anna", seven()), ("#2", seven()), ("#3", mistake(3, "a comment, or a candidate without a sheet"))]);
+    expect("#1,7: 0+\n#2,7: 0+\n", &[("file", mistake(1, "nothing but comments"))]);
+    // Names that start as a line of a sheet does.
+    expect("board A,7: 0+\nverdict,blocked 7\n", &[("board A", seven()), ("verdict", Ok(vec![1, 7]))]);
+    expect("home team,7: 0+\nhome 7: 0+,\n", &[("home team", seven()), ("home 7: 0+", mistake(2, "a line of a sheet in a name"))]);
+    // A readable file with a line that isn't.
+    expect("Yard, 4\ncandidate Anna\nhome 7: 0+\n", &[("file", mistake(1, "a line before the first candidate")), ("Anna", seven())]);
 }
 
 #[test]
 fn a_sheet_in_bytes() {
     let read = |file: &[u8]| candidates("file", file).remove(0).sheet.map_err(|mistake| mistake.to_string());
     assert_eq!(read(&[0, 0, 1, 7, 0, 2, 0, 0, 0, 3]), Ok(vec![0, 263, 2, 0, 3]));
-    assert_eq!(read(&[1, 2, 3, 4]), Ok(vec![258, 772]));
-    // A text in another encoding isn't marked.
-    assert_eq!(read(b"\xFF\xFEb\0"), Err("1: \"ÿþb\\u{0}\" starts no line of a sheet: those are home and blocked".to_string()));
+    assert_eq!(read(&[0, 2]), Ok(vec![2]));
+    // A text in another encoding isn't marked, nor one with a stray control character.
+    assert_eq!(read(b"\xFF\xFEb\0"), Err("1: a byte 0, which no text has; a text is to be in UTF-8".to_string()));
+    assert_eq!(read(b"\x1B[2Jhome 7: 0+"), Err("1: \"\\u{1b}[2Jhome\" starts no line of a sheet: those are home and blocked".to_string()));
     assert_eq!(read(&[0, 0, 7]), Err("1: a sheet in bytes has two for each word, and these are 3".to_string()));
 }

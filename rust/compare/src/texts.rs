@@ -51,7 +51,7 @@ pub fn written(random: &mut Random, lines: &[String]) -> String {
     let mut text = String::new();
     for line in lines {
         while random.once_in(4) {
-            text += any(random, &["\n", "\r\n", "  \n", "# a comment, with home 7: 0+\n", "\t# points 2 home 0\r\n"]);
+            text += any(random, &["\n", "\r\n", "  \n", "# a comment; of 7, and \"more\"\n", "\t# points 2\r\n"]);
         }
         text += any(random, &["", "", " ", "\t"]);
         for part in line.split_inclusive(' ') {

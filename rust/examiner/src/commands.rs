@@ -10,7 +10,7 @@ use examiner::marks::{counts, malformed, marked, rows, shared_names, table, Mark
 use examiner::moves::{self, forbidden, move_shown, Log};
 use examiner::page::page;
 use examiner::refused;
-use nizkabel::owned::{self, Refused};
+use nizkabel::owned;
 use nizkabel::{COPY_ROOM, POSITION_ROOM};
 use std::ffi::{OsStr, OsString};
 
@@ -69,13 +69,9 @@ pub fn run(given: &[OsString]) -> Result<u8, Stop> {
     }
 }
 
-fn turned_back(refused: Refused) -> Stop {
-    Stop::turned_back(refused.to_string())
-}
-
 /// A board in the form that is asked for. Bytes are those of its fair copy, which the library writes.
 fn form(board: &Board, arguments: &Arguments) -> Result<Vec<u8>, Stop> {
-    let copy = owned::write(board.bytes(), &board.position()).map_err(turned_back)?;
+    let copy = owned::write(board.bytes(), &board.position())?;
     if arguments.has("--bytes") {
         return Ok(copy);
     }
@@ -100,7 +96,7 @@ fn key(arguments: Arguments) -> Result<u8, Stop> {
     let too_long = if given.bytes.len() > COPY_ROOM { "too long, " } else { "" };
     match Board::accepted(&given.bytes) {
         Ok(_) => Ok(0),
-        Err(refused) => Err(Stop::turned_back(format!("{}: {too_long}{}", name(file), refused::in_words(refused, &given)))),
+        Err(refused) => Err(Stop::answered(format!("{}: {too_long}{}", name(file), refused::in_words(refused, &given)))),
     }
 }
 
@@ -128,8 +124,8 @@ fn mark(arguments: Arguments) -> Result<u8, Stop> {
     }
     match malformed(&marks) {
         0 => Ok(0),
-        1 => Err(Stop::turned_back("1 sheet is malformed and not marked".to_string())),
-        several => Err(Stop::turned_back(format!("{several} sheets are malformed and not marked"))),
+        1 => Err(Stop::answered("1 sheet is malformed and not marked".to_string())),
+        several => Err(Stop::answered(format!("{several} sheets are malformed and not marked"))),
     }
 }
 
@@ -160,11 +156,11 @@ fn replay(arguments: Arguments) -> Result<u8, Stop> {
     let log = moves::read(&files::whole(log_file)?).map_err(|mistake| Stop::cannot(format!("{}:{mistake}", name(log_file))))?;
     let number = nizkabel::replay(board.bytes(), &log.words, &mut [0; POSITION_ROOM]).number;
     if number == 37 {
-        return Err(Stop::turned_back(format!("{}: refused 37: a log with an odd number of words", name(log_file))));
+        return Err(Stop::answered(format!("{}: refused 37: a log with an odd number of words", name(log_file))));
     }
     let moves = log.moves();
-    let replay = owned::replay(board.bytes(), &moves).map_err(turned_back)?;
-    let led_to = owned::write(board.bytes(), &replay.position).and_then(|copy| Board::accepted(&copy)).map_err(turned_back)?;
+    let replay = owned::replay(board.bytes(), &moves)?;
+    let led_to = owned::write(board.bytes(), &replay.position).and_then(|copy| Board::accepted(&copy))?;
     let stopped = replay.stopped_at.map(|at| stopped(&led_to, &log, at));
     if arguments.has("--write") {
         print(form(&led_to, &arguments)?)?;
@@ -175,6 +171,6 @@ fn replay(arguments: Arguments) -> Result<u8, Stop> {
     }
     match stopped {
         None => Ok(0),
-        Some(stopped) => Err(Stop::turned_back(format!("{}: {stopped}", name(log_file)))),
+        Some(stopped) => Err(Stop::answered(format!("{}: {stopped}", name(log_file)))),
     }
 }

@@ -1,11 +1,11 @@
 //! Cells parted by commas, semicolons or tabs, as spreadsheets write them, and cells to be read by one.
 
+use crate::sheet::may_hold_line;
 use crate::text::{quoted, Mistake};
 use std::iter::Peekable;
 use std::str::Chars;
 
 /// A cell: its text, and the line where it starts.
-#[derive(Clone, Debug, Default, PartialEq, Eq)]
 pub struct Cell {
     pub line: usize,
     pub text: String,
@@ -22,7 +22,7 @@ impl Row {
     pub fn says(&self) -> bool {
         let (first, rest) = (self.cells[0].text.trim(), &self.cells[1..]);
         let empty = |cell: &Cell| cell.text.trim().is_empty();
-        let comment = rest.is_empty() && first.starts_with('#');
+        let comment = rest.is_empty() && first.starts_with('#') && !may_hold_line(first);
         let passed_over = first.is_empty() || comment || first == "sep=";
         self.mistake.is_some() || !(passed_over && rest.iter().all(empty))
     }
@@ -65,6 +65,8 @@ impl<'a> Rows<'a> {
 
     /// A cell, the mistake in it, and what ended it: a separator, a line's end, or the text's.
     fn cell(&mut self) -> (Cell, Option<Mistake>, Option<char>) {
+        // Where texts were put one after another, one may start with the mark of UTF-8.
+        self.rest.next_if_eq(&'\u{FEFF}');
         let mut cell = Cell { line: self.line, text: String::new() };
         let in_quotes = self.rest.next_if_eq(&'"').is_some();
         if in_quotes {
@@ -111,11 +113,11 @@ impl Iterator for Rows<'_> {
     }
 }
 
-/// A row to be read by a spreadsheet. A text that it would take for a formula gets an apostrophe before it.
+/// A row to be read by a spreadsheet, of texts on one line. One that it would take for a formula gets an apostrophe before it.
 pub fn row(cells: &[&str]) -> String {
     let cell = |text: &&str| {
-        let text = if text.starts_with(['=', '+', '-', '@', '\t', '\r']) { format!("'{text}") } else { text.to_string() };
-        if text.contains([',', ';', '"', '\n', '\r', '\t']) { format!("\"{}\"", text.replace('"', "\"\"")) } else { text }
+        let text = if text.starts_with(['=', '+', '-', '@']) { format!("'{text}") } else { text.to_string() };
+        if text.contains([',', ';', '"']) { format!("\"{}\"", text.replace('"', "\"\"")) } else { text }
     };
     cells.iter().map(cell).collect::<Vec<_>>().join(",") + "\n"
 }

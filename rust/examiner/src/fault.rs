@@ -1,5 +1,5 @@
-//! Where a sheet fails and why, found by asking the proved marker about parts of the sheet, by halving: so the place is as sure as the mark. Only the
-//! words for a word that the marker turns back are read off the board, in a fixed order.
+//! Where a sheet fails and why, found by asking the proved marker about parts of the sheet, by halving: so the place is as sure as the mark. Only why
+//! it turns a word back is read off the board, in a fixed order.
 
 use crate::board::Board;
 use crate::text::{numbers_cut, word_shown};
@@ -93,11 +93,6 @@ impl Asked<'_> {
         nizkabel::mark(self.board.bytes(), sheet)
     }
 
-    /// The mark of the sheet up to a place with these words after it.
-    fn marked_with(&self, end: usize, words: &[u16]) -> u32 {
-        self.marked(&[&self.sheet[..end], words].concat())
-    }
-
     fn fault(&self, number: u32) -> Option<Fault> {
         match number {
             30 => Some(self.not_whole()),
@@ -156,7 +151,7 @@ impl Asked<'_> {
 
     /// 32: after the entries before it, the carrier with the first words of its route alone gets 0, 33 or 34 below the faulty word, 32 from it on.
     fn faulty_word(&self, entry: &Entry) -> (usize, Reason) {
-        let up_to = |words: usize| self.marked_with(entry.start, &[&[entry.carrier, words as u16], &entry.route[..words]].concat());
+        let up_to = |words: usize| self.marked(&[&self.sheet[..entry.start], &[entry.carrier, words as u16], &entry.route[..words]].concat());
         let counts: Vec<usize> = (1..=entry.route.len()).collect();
         let word = counts.partition_point(|&words| up_to(words) != 32);
         let reason = match word {
@@ -164,13 +159,13 @@ impl Asked<'_> {
             _ if !self.board.has_zone(entry.route[word]) => Some(Reason::NoSuchZone { zones: self.board.zones.len() }),
             // The word before leaves at home.
             _ if matches!(up_to(word), 0 | 34) => Some(Reason::RunsOn),
-            _ => self.forbidden(entry, entry.route[word - 1], entry.route[word]),
+            _ => self.against(entry, entry.route[word - 1], entry.route[word]),
         };
         (word, reason.unwrap_or(Reason::BreaksRules))
     }
 
-    /// Why the moving rules forbid a word after another one, as the board has it.
-    fn forbidden(&self, entry: &Entry, last: u16, word: u16) -> Option<Reason> {
+    /// What is against a word after another one by the moving rules, as the board has it.
+    fn against(&self, entry: &Entry, last: u16, word: u16) -> Option<Reason> {
         let (leaves, starts) = (self.board.leave(last), self.board.start(word));
         if leaves != starts {
             return Some(Reason::DoesNotTouch { leaves, starts });
@@ -186,8 +181,12 @@ impl Asked<'_> {
     /// 34: a carrier is still out exactly where an entry of it after the sheet doesn't get 31. Those that have an entry passed with it, and are home.
     fn still_out(&self) -> Vec<u16> {
         let gone: Vec<u16> = entries(self.sheet).iter().map(|entry| entry.carrier).collect();
-        let out = |&(carrier, standing): &(u16, u16)| self.marked_with(self.sheet.len(), &[carrier, 1, standing]) != 31;
-        self.board.standings().into_iter().filter(|(carrier, _)| !gone.contains(carrier)).filter(out).map(|(carrier, _)| carrier).collect()
+        let mut asked = [self.sheet, &[0; 3]].concat();
+        let mut out = |&(carrier, standing): &(u16, u16)| {
+            asked[self.sheet.len()..].copy_from_slice(&[carrier, 1, standing]);
+            self.marked(&asked) != 31
+        };
+        self.board.standings().into_iter().filter(|(carrier, _)| !gone.contains(carrier)).filter(&mut out).map(|(carrier, _)| carrier).collect()
     }
 
     /// 35: the claim beside the library's own list.
@@ -225,7 +224,7 @@ impl fmt::Display for Reason {
             Reason::PastEnd { counted, left } => write!(f, "counts {counted} words where {left} are left"),
             Reason::NotOnBoard => write!(f, "isn't on the board"),
             Reason::HomeAlready { by } => write!(f, "home already by entry {}", by + 1),
-            Reason::NotItsStanding { standing } => write!(f, "not its standing, which is {}", word_shown(*standing)),
+            Reason::NotItsStanding { standing } => write!(f, "not its standing: it stands in {}", word_shown(*standing)),
             Reason::NoSuchZone { zones } => write!(f, "no such zone; the last is {}", zones - 1),
             Reason::RunsOn => write!(f, "runs on through home"),
             Reason::DoesNotTouch { leaves, starts } => write!(f, "doesn't touch: starts at point {starts}, not at {leaves}"),

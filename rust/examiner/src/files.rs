@@ -68,7 +68,7 @@ pub fn given(file: &OsStr) -> Result<Given, Stop> {
 /// A board that the library accepts.
 pub fn board(file: &OsStr) -> Result<Board, Stop> {
     let given = given(file)?;
-    Board::accepted(&given.bytes).map_err(|refused| Stop::turned_back(format!("{}: {}", name(file), refused::in_words(refused, &given))))
+    Board::accepted(&given.bytes).map_err(|refused| Stop::answered(format!("{}: {}", name(file), refused::in_words(refused, &given))))
 }
 
 /// Writes the whole output. A write that std would take for done, to an output that can't be written, is an error too.

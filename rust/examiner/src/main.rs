@@ -1,10 +1,11 @@
-//! The examiner's program: `nizkabel board`, `key`, `mark` and `replay`. It reads files, asks the proved library and shows what it says. What goes to
+//! The examiner's tool: `nizkabel board`, `key`, `mark` and `replay`. It reads files, asks the proved library and shows what it says. What goes to
 //! standard output is made whole first and then written; whatever fails is said on standard error, and the status isn't 0.
 
 mod commands;
 mod files;
 mod progress;
 
+use nizkabel::owned::Refused;
 use std::ffi::OsString;
 use std::process::ExitCode;
 
@@ -15,8 +16,8 @@ struct Stop {
 }
 
 impl Stop {
-    /// The library turns a board or a log back.
-    fn turned_back(said: String) -> Stop {
+    /// Answered, but not all is well: a refusal, a malformed sheet, a replay that stopped.
+    fn answered(said: String) -> Stop {
         Stop { status: 1, said }
     }
 
@@ -26,8 +27,15 @@ impl Stop {
     }
 }
 
+impl From<Refused> for Stop {
+    fn from(refused: Refused) -> Stop {
+        Stop::answered(refused.to_string())
+    }
+}
+
 const HELP: &str = "\
-nizkabel board BOARD [--bytes | --hex]           a board in any form as readable text, bytes or hexadecimal
+nizkabel board BOARD [--bytes | --hex]           a board in any form as readable text, bytes or hexadecimal; the bytes are
+                                                 the library's fair copy, in version 1 where every carrier is at most 255
 nizkabel key BOARD                               the key: who goes home in which order, and who is blocked
 nizkabel mark BOARD SHEETS.. [--csv]             the marks of candidates' sheets, with the place of each fault
 nizkabel replay BOARD LOG [--write] [--bytes | --hex]
@@ -40,20 +48,24 @@ library's marker about parts of the sheet.
 Board    points 9 home 0     nine points, the home point is 0
          0-1 17>             zone 0 joins points 0 and 1; carrier 17 heads from 0 to 1
          2-3 <18             zone 1; carrier 18 heads from 3 to 2
-         1-2                 zone 2 is free;  # starts a comment
+         1-2                 zone 2 is free
          or its bytes, or these in hexadecimal
 Sheets   candidate Anna      a name before each sheet, where a file has several
          home 7: 0+ 1-       carrier 7 goes home through zone 0 from its first end to its second, then back through 1
          blocked 5 6         or these carriers are blocked; `blocked none` may stand with home lines, or alone
-         or rows of a spreadsheet (CSV): the name, then a cell for each such line; or one sheet's words, two bytes each
+         or rows of a spreadsheet (CSV; comma, semicolon or tab): the name, then a cell for each such line, with
+         home or without; a first row that starts with `name` has the columns' heads
+         or what key prints, if it isn't both; or one sheet's words, two bytes each
 Log      7 1-                carrier 7 goes into zone 1, heading from its second end to its first
          7 home              carrier 7 goes into home
          or its words, two bytes each
+Texts are in UTF-8, and # starts a comment. Entries, words, moves and lines are counted from 1, points and zones
+from 0.
 
-Entries, words, moves and lines are counted from 1, points and zones from 0.
 Status   0  done; of mark: every sheet has its mark, whatever it is; of replay: every move was carried out
-         1  the library refuses the board, a sheet is malformed and not marked, or a replay stopped
-         2  a file can't be read, a board or a log is malformed, or the output can't be written
+         1  the library refuses the board or the log, a sheet is malformed and not marked, or a replay stopped
+         2  the command isn't understood, a file can't be read, a board or a log is malformed, or the output can't
+            be written
 ";
 
 fn main() -> ExitCode {

@@ -3,7 +3,7 @@
 use crate::board::Board;
 use crate::fault::Reason;
 use crate::sheet::carrier;
-use crate::text::{decoded, lines, quoted, said, word_shown, zone_word, Mistake};
+use crate::text::{decoded, lines, quoted, said, word_shown, words, zone_word, Mistake};
 use nizkabel::HOME;
 use std::fmt;
 
@@ -30,12 +30,7 @@ pub fn read(file: &[u8]) -> Result<Log, Mistake> {
     if file.starts_with(&[255, 254]) || file.starts_with(&[254, 255]) {
         return Err(Mistake::new(1, "a text is to be in UTF-8, and this one is in UTF-16"));
     }
-    match file.chunks_exact(2) {
-        pairs if pairs.remainder().is_empty() => {
-            Ok(Log { words: pairs.map(|pair| u16::from_be_bytes([pair[0], pair[1]])).collect(), lines: Vec::new() })
-        }
-        _ => Err(Mistake::new(1, format!("a log in bytes has two for each word, and these are {}", file.len()))),
-    }
+    words("log", file).map(|words| Log { words, lines: Vec::new() })
 }
 
 fn readable(text: &str) -> Result<Log, Mistake> {

@@ -16,8 +16,9 @@ impl Progress {
 
     /// So many are done; five times a second it shows.
     pub fn done(&mut self, done: usize, of: usize) {
+        let Some(due) = self.due else { return };
         let now = Instant::now();
-        if self.due.is_some_and(|due| due <= now) {
+        if due <= now {
             let _ = write!(io::stderr(), "\rmarked {done} of {of}");
             self.due = Some(now + Duration::from_millis(200));
             self.shown = true;

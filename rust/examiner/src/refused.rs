@@ -129,7 +129,7 @@ fn apart(points: u8, home: u8, entries: &[Entry]) -> Option<Wrong> {
 impl fmt::Display for Wrong {
     fn fmt(&self, f: &mut fmt::Formatter<'_>) -> fmt::Result {
         match self {
-            Wrong::Short { bytes } => write!(f, "{bytes} bytes"),
+            Wrong::Short { bytes } => write!(f, "it has {bytes}"),
             // Of a file that is longer no more is read.
             Wrong::Length { said, follow: 65_536.. } => write!(f, "L says {said}, and over 65535 bytes follow"),
             Wrong::Length { said, follow } => write!(f, "L says {said}, and {follow} bytes follow"),

@@ -37,17 +37,16 @@ pub fn is_line(text: &str) -> bool {
     line_said(text).is_ok()
 }
 
-/// Whether a text starts as a line of a sheet, or as one without the word `home`.
-pub fn starts_line(text: &str) -> bool {
-    ["home", "blocked"].iter().any(|word| text.starts_with(word)) || text.starts_with(|c: char| c.is_ascii_digit())
-}
-
-/// Whether a text holds a line of a sheet from some word on to its end, with the word `home` or without.
-pub fn holds_line(text: &str) -> bool {
-    let words = text.split_whitespace().map(|word| word.as_ptr() as usize - text.as_ptr() as usize);
-    words.map(|start| &text[start..]).any(|rest| match line_said(rest) {
-        Ok(Line::Home(_) | Line::BlockedNone | Line::Blocked(_)) => true,
-        _ => entry_said(rest).is_ok_and(|entry| entry.len() > 2),
+/// Whether a text could hold part of a sheet, whatever parts its words: a zone with its heading, `home` before a number, `blocked` before one or
+/// before `none`. A name may start with the first of these, as `12- Anna` does.
+pub fn may_hold_line(text: &str) -> bool {
+    let words: Vec<&str> = text.split(|c: char| !c.is_alphanumeric() && !"+-".contains(c)).filter(|word| !word.is_empty()).collect();
+    let number = |word: &str| word.starts_with(|c: char| c.is_ascii_digit());
+    words.windows(2).any(|pair| match *pair {
+        ["home", next] => number(next),
+        [word, next] if word.eq_ignore_ascii_case("blocked") => number(next) || next == "none",
+        [_, next] => zone_word(next).is_ok(),
+        _ => false,
     })
 }
 

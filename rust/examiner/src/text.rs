@@ -7,8 +7,8 @@ use std::fmt;
 /// A mistake in a text: its line, counted from 1, and what is wrong there.
 #[derive(Clone, Debug, PartialEq, Eq)]
 pub struct Mistake {
-    pub line: usize,
-    pub what: String,
+    line: usize,
+    what: String,
 }
 
 impl Mistake {
@@ -58,20 +58,36 @@ pub fn said(line: &str) -> &str {
 
 /// A decimal number of at most so much, in digits alone.
 pub fn number(said: &str, what: &str, most: u16) -> Result<u16, String> {
-    if said.is_empty() || !said.bytes().all(|c| c.is_ascii_digit()) {
-        return Err(format!("{what} {} is no number", quoted(said)));
+    let mut value: u32 = 0;
+    for digit in said.bytes() {
+        if !digit.is_ascii_digit() {
+            return Err(format!("{what} {} is no number", quoted(said)));
+        }
+        value = value.saturating_mul(10).saturating_add(u32::from(digit - b'0'));
     }
-    said.parse().ok().filter(|&n| n <= most).ok_or_else(|| format!("{what} {} is over {most}", cut(said)))
+    match u16::try_from(value) {
+        _ if said.is_empty() => Err(format!("{what} \"\" is no number")),
+        Ok(value) if value <= most => Ok(value),
+        _ => Err(format!("{what} {} is over {most}", cut(said))),
+    }
+}
+
+/// The words of a sheet or a log in bytes, high byte first.
+pub fn words(what: &str, file: &[u8]) -> Result<Vec<u16>, Mistake> {
+    match file.chunks_exact(2) {
+        pairs if pairs.remainder().is_empty() => Ok(pairs.map(|pair| u16::from_be_bytes([pair[0], pair[1]])).collect()),
+        _ => Err(Mistake::new(1, format!("a {what} in bytes has two for each word, and these are {}", file.len()))),
+    }
 }
 
 /// A zone with its heading, `4+` or `4-`, as the word 2 × zone + heading.
 pub fn zone_word(said: &str) -> Result<u16, String> {
-    let (zone, heading) = match (said.strip_suffix('+'), said.strip_suffix('-')) {
-        (Some(zone), _) => (zone, 0),
-        (_, Some(zone)) => (zone, 1),
+    let heading = match said.bytes().last() {
+        Some(b'+') => 0,
+        Some(b'-') => 1,
         _ => return Err(format!("{} is no zone with + or - for its heading", quoted(said))),
     };
-    Ok(2 * number(zone, "zone", 32_767)? + heading)
+    Ok(2 * number(&said[..said.len() - 1], "zone", 32_767)? + heading)
 }
 
 /// A word as a zone with its heading.

@@ -34,8 +34,23 @@ fn each_form_says_the_bytes() {
     assert_eq!(bytes("points 2 home 0\n0-1 <263\n0-1"), [0, 14, 2, 2, 0, 2, 0, 1, 1, 7, 1, 0, 1, 0, 0, 0]);
     // Decimal, whatever the digits look like.
     assert_eq!(bytes("points 2 home 0\n0-1 10>\n0-1")[8], 10);
+    // As long as a text may be.
+    let said = "points 2 home 0\n0-1 7>\n0-1\n";
+    let most = said.to_string() + &" ".repeat(65_536 - said.len());
+    assert_eq!(bytes(&most), K);
+    assert_eq!(mistake(&(most + " ")), "4: a text of over 65536 bytes is no board");
     // A comment in Latin-1.
     assert_eq!(board_file::read(b"points 2 home 0 # zur\xFCck\n0-1 7>\n0-1").expect("a board's text").bytes, K);
+}
+
+#[test]
+fn the_first_byte_tells_the_form() {
+    for first in [0, 8, 14, 31, 127, 128, 255] {
+        assert_eq!(board_file::read(&[first, b'0']).map(|given| given.bytes), Ok(vec![first, b'0']), "{first}");
+    }
+    for first in [9, 10, 11, 12, 13, 32] {
+        assert_eq!(board_file::read(&[first, b'0', b'7']).map(|given| given.bytes), Ok(vec![7]), "{first}");
+    }
 }
 
 #[test]
@@ -65,6 +80,11 @@ fn mistakes_have_their_lines() {
     assert_eq!(board("0-1 +7>"), "3: carrier \"+7\" is no number");
     assert_eq!(board("0-1 65536>"), "3: carrier 65536 is over 65535");
     assert_eq!(board("0-1 0>"), "3: 0 is no carrier; a free zone has its ends alone");
+    assert_eq!(mistake("points 2 home 0\r\n\r\n0-x\r\n"), "3: point \"x\" is no number");
+    // What is quoted is cut.
+    let xs = |count: usize| "x".repeat(count);
+    assert_eq!(mistake(&format!("points {} home 0", xs(40))), format!("1: points \"{}\" is no number", xs(40)));
+    assert_eq!(mistake(&format!("points {} home 0", xs(41))), format!("1: points \"{}..\" is no number", xs(40)));
     assert_eq!(board(&"0-1\n".repeat(255)), "257: a board has no more than 96 zones");
     assert_eq!(mistake("00 0C\n# not\n00 no\n"), "3: \"n\" is no hexadecimal digit, and a readable board starts with points");
     assert_eq!(mistake("00 0C\n0 1\n"), "2: the digit \"0\" stands alone; digits go in pairs");
@@ -75,11 +95,12 @@ fn mistakes_have_their_lines() {
 
 #[test]
 fn refusals_have_their_places() {
-    assert_eq!(refusal("00 0C 01"), "refused 1: under 6 bytes: 3 bytes");
+    assert_eq!(refusal("00 0C 01"), "refused 1: under 6 bytes: it has 3");
     let row_2 = "refused 2: L isn't the count of bytes after it";
     assert_eq!(refusal("00 0C 01 02 00 02\n00 01 00 00\n00 01 00"), format!("{row_2}: L says 12, and 11 bytes follow, line 1"));
     assert_eq!(refusal("00 0C 03 02 00 02\n00 01 00 00\n00 01 00 00"), "refused 3: version is neither 1 nor 2: version 3, line 1");
     assert_eq!(refusal("\npoints 1 home 0\n0-0\n0-0"), "refused 4: P, home or Z out of range: points 1; a board has 2 to 64, line 2");
+    assert_eq!(refusal("points 65 home 0\n0-1\n0-1"), "refused 4: P, home or Z out of range: points 65; a board has 2 to 64, line 1");
     assert_eq!(refusal("points 2 home 2\n0-1\n0-1"), "refused 4: P, home or Z out of range: home 2; it must be below 2, the count of points, line 1");
     assert_eq!(refusal("points 2 home 0\n0-1"), "refused 4: P, home or Z out of range: zones 1; a board has 2 to 96, line 2");
     let zones = "0-1\n".repeat(97);
@@ -93,10 +114,17 @@ fn refusals_have_their_places() {
     let row_7 = "refused 7: a carrier in two zones";
     assert_eq!(refusal("points 2 home 0\n0-1 20>\n0-1\n# two\n0-1 <20"), format!("{row_7}: carrier 20 in zones 0 and 2, lines 2 and 5"));
     assert_eq!(refusal("00 0C 01 02 00 02 00 01 07 00 00 01 07 00"), format!("{row_7}: carrier 7 in zones 0 and 1, line 1"));
+    assert_eq!(refusal("points 2 home 0\n0-1 300>\n0-1\n# two\n0-1 <300"), format!("{row_7}: carrier 300 in zones 0 and 2, lines 2 and 5"));
     let row_8 = "refused 8: a point other than home with under two zones, a turning loop counted twice";
     assert_eq!(refusal("points 3 home 0\n0-1\n0-1\n1-2"), format!("{row_8}: point 2 has one zone"));
     assert_eq!(refusal("points 3 home 0\n0-1\n0-1"), format!("{row_8}: point 2 has no zone"));
     assert_eq!(refusal("points 4 home 0\n0-1\n0-1\n2-3\n2-3"), "refused 9: points that don't hang together: point 2 doesn't hang together with home");
+    // Each byte of the head on a line of its own.
+    let heads = ["00 0B 01 02 00 02", "00 0C 03 02 00 02", "00 0C 01 01 00 02", "00 0C 01 02 02 02", "00 0C 01 02 00 01", "00 0C 01 02 00 03"];
+    for (head, line) in heads.into_iter().zip([1, 3, 4, 5, 6, 1]) {
+        let said = refusal(&format!("{head} 00 01 00 00 00 01 00 00").replace(' ', "\n"));
+        assert!(said.ends_with(&format!(", line {line}")), "{head}: {said}");
+    }
     // In bytes there are no lines.
     let mut wide = K;
     wide[6] = 9;

@@ -2,6 +2,7 @@
 
 use compare::boards::{self, Loops};
 use compare::random::Random;
+use examiner::text::starts_as_text;
 use std::io::Write;
 use std::path::Path;
 use std::process::{Command, Stdio};
@@ -34,7 +35,7 @@ fn the_same_pages() {
             bytes.resize(480 + random.below(20), 0);
         }
         // A board that starts as a text is read as one.
-        if bytes.first().is_some_and(|byte| byte.is_ascii_graphic() || (9..=13).contains(byte) || *byte == 32 || *byte == 0xEF) {
+        if starts_as_text(&bytes) {
             continue;
         }
         let (expected, got) = (printed(key, &[], &bytes), printed(nizkabel, &["key", "-"], &bytes));

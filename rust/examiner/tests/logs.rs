@@ -33,6 +33,7 @@ fn mistakes_have_their_lines() {
     assert_eq!(words(b"\xFF\xFE7\0 \0"), Err("1: a text is to be in UTF-8, and this one is in UTF-16".to_string()));
     assert_eq!(words(b"7 1- # \xFF\n"), Ok(vec![7, 3]));
     assert_eq!(words(b"AB\xFF\xFF"), Ok(vec![0x4142, HOME]));
+    assert_eq!(words(&[8, 7, 255, 255]), Ok(vec![2055, HOME]));
     assert_eq!(words(&[0, 7, 0]), Err("1: a log in bytes has two for each word, and these are 3".to_string()));
 }
 
@@ -48,6 +49,9 @@ fn why_a_move_is_forbidden() {
     assert_eq!(why(5, 0).as_deref(), Some("it heads for home and goes nowhere else"));
     assert_eq!(why(6, 8).as_deref(), Some("no such zone; the last is 3"));
     assert_eq!(why(6, 0).as_deref(), Some("doesn't touch: starts at point 0, not at 2"));
+    // The first reason that fits.
+    assert_eq!(why(5, 8).as_deref(), Some("no such zone; the last is 3"));
+    assert_eq!(why(6, 2).as_deref(), Some("doesn't touch: starts at point 1, not at 2"));
     assert_eq!(why(6, 3).as_deref(), Some("it stands in that zone"));
     assert_eq!(why(6, 5).as_deref(), Some("held by 7"));
 }

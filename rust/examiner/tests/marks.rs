@@ -3,7 +3,7 @@
 use examiner::board::Board;
 use examiner::board_file;
 use examiner::candidates::{candidates, Candidate};
-use examiner::marks::{marked, rows, table};
+use examiner::marks::{marked, rows, shared_names, table};
 
 fn board(text: &str) -> Board {
     Board::accepted(&board_file::read(text.as_bytes()).expect("a board's text").bytes).expect("an accepted board")
@@ -28,7 +28,7 @@ fn every_reason_in_words() {
     assert_eq!(line(&k, &[0, 8, 1, 0]), "31  carrier isn't still out: entry 1 (carrier 8): isn't on the board");
     assert_eq!(line(&k, &[0, 7, 2, 0, 3, 7, 2, 0, 3]), "31  carrier isn't still out: entry 2 (carrier 7): home already by entry 1");
     let breaks = "32  word breaks the moving rules: entry 1 (carrier 7)";
-    assert_eq!(line(&k, &[0, 7, 2, 1, 3]), format!("{breaks}, word 1 (0-): not its standing, which is 0+"));
+    assert_eq!(line(&k, &[0, 7, 2, 1, 3]), format!("{breaks}, word 1 (0-): not its standing: it stands in 0+"));
     assert_eq!(line(&k, &[0, 7, 2, 0, 4]), format!("{breaks}, word 2 (2+): no such zone; the last is 1"));
     assert_eq!(line(&k, &[0, 7, 4, 0, 3, 0, 3]), format!("{breaks}, word 3 (0+): runs on through home"));
     let apart = "doesn't touch: starts at point 0, not at 1";
@@ -76,5 +76,23 @@ fn lines_rows_and_counts() {
         "E,33,route doesn't leave at home,1,7,1,0,A to B,leaves at point 1",
     ];
     assert_eq!(rows(&marks).lines().collect::<Vec<_>>(), expected);
+    // What a spreadsheet would take for a formula, and what parts cells.
+    let empty_sheet = |name: &&str| marked(&k, "f", Candidate { name: name.to_string(), sheet: Ok(vec![]) });
+    let of = |names: &[&str]| -> Vec<_> { names.iter().map(empty_sheet).collect() };
+    let empty = "30,not a whole sheet,,,,,,empty";
+    for name in ["=1", "+1", "-1", "@1"] {
+        assert!(rows(&of(&[name])).ends_with(&format!("\n'{name},{empty}\n")), "{name}");
+    }
+    for name in ["A,B", "A;B", "A B\""] {
+        assert!(rows(&of(&[name])).ends_with(&format!("\n\"{}\",{empty}\n", name.replace('"', "\"\""))), "{name}");
+    }
+    assert!(rows(&of(&["A\tB\u{9B}2J\u{202E}"])).ends_with(&format!("\nA\\u{{9}}B\\u{{9b}}2J\\u{{202e}},{empty}\n")));
+    // The names' column is as wide as the longest name, up to 40 characters.
+    let long = "n".repeat(41);
+    let counted = "sheets 2, right 0, wrong 2 (30: 2), malformed 0\n";
+    let empty = "30  not a whole sheet: empty";
+    assert_eq!(table(&of(&["A", &long])), format!("A{}  {empty}\n{long}  {empty}\n{counted}", " ".repeat(39)));
+    assert_eq!(table(&of(&["Jörg", "A"])), format!("Jörg  {empty}\nA     {empty}\n{counted}"));
+    assert_eq!(shared_names(&of(&["A", "B", "A", "A"])), [("A".to_string(), 3)]);
     assert_eq!(table(&[]), "sheets 0, right 0, wrong 0, malformed 0\n");
 }

@@ -40,6 +40,10 @@ fn mistakes_have_their_lines() {
     assert_eq!(sheet("blocked 9\nhome 7: 0+"), Err("2: home after blocked carriers: a sheet is a plan or a claim".to_string()));
     assert_eq!(sheet("blocked none\nblocked 9"), Err("2: a second blocked line".to_string()));
     assert_eq!(sheet("blocked none\nhome 7: 0+\nblocked none"), Err("3: a second blocked line".to_string()));
+    assert_eq!(sheet("blocked 9\nblocked 8"), Err("2: a second blocked line".to_string()));
+    assert_eq!(sheet("blocked 9\nblocked none"), Err("2: a second blocked line".to_string()));
+    assert_eq!(sheet("blocked none 5"), Err("1: carrier \"none\" is no number".to_string()));
+    assert_eq!(sheet("blocked None"), Err("1: carrier \"None\" is no number".to_string()));
     assert_eq!(sheet("blocked"), Err("1: blocked says none, or the carriers that are".to_string()));
     assert_eq!(sheet("blocked 5 none"), Err("1: carrier \"none\" is no number".to_string()));
     assert_eq!(sheet("home 7: 0+\nhmoe 9: 1-"), Err("2: \"hmoe\" starts no line of a sheet: those are home and blocked".to_string()));
@@ -74,11 +78,23 @@ fn several_candidates_in_a_file() {
     ];
     assert_eq!(mistaken, expected.map(|(name, sheet)| (name.to_string(), sheet)));
     assert_eq!(read("\u{FEFF}CANDIDATE Anna\nblocked 7\n\u{FEFF}Candidate Bo\n"), right(&[("Anna", &[1, 7]), ("Bo", &[])]));
+    assert_eq!(read("  candidate Anna\n  blocked 7\n\tcandidate Bo\n"), right(&[("Anna", &[1, 7]), ("Bo", &[])]));
+    // A comment has white space on both sides.
+    let commented = "candidate Bo# late\nblocked 7\ncandidate Cy #2\ncandidate Di #\n";
+    assert_eq!(read(commented), right(&[("Bo# late", &[1, 7]), ("Cy #2", &[]), ("Di", &[])]));
+    let no_candidate = Err("3: \"candidates\" starts no line of a sheet: those are home and blocked".to_string());
+    assert_eq!(read("candidate Anna\nblocked 7\ncandidates\n"), [("Anna".to_string(), no_candidate)]);
     // The sheet goes on lines of its own.
-    for name in ["Anna home 7: 0+ 1-", "Anna\t7: 0+", "Anna blocked 7"] {
-        assert_eq!(read(&format!("candidate {name}")), [(name.to_string(), Err("1: a line of a sheet in a name".to_string()))]);
+    let stuck = ["Anna,blocked 7", "Bo;7: 0+ 1-", "Cy blocked 7, 9", "Di home 7 0+ 1-", "Ed home 7: 0+ 1", "Fy Blocked 7", "Gi home 7:"];
+    for name in ["Anna home 7: 0+ 1-", "Anna\t7: 0+", "Anna blocked 7"].into_iter().chain(stuck) {
+        let two = [("Zoe".to_string(), Ok(vec![1, 7])), (name.to_string(), Err("3: part of a sheet in a name".to_string()))];
+        assert_eq!(read(&format!("candidate Zoe\nblocked 7\ncandidate {name}")), two);
     }
     assert_eq!(read("candidate Group 2: Anna\nblocked 7"), right(&[("Group 2: Anna", &[1, 7])]));
+    // What stands in comments may have been meant.
+    assert_eq!(read("candidate Anna\n#home 7: 0+"), [("Anna".to_string(), Err("2: a sheet in a comment".to_string()))]);
+    let after = Err("4: a line after a candidate in a comment".to_string());
+    assert_eq!(read("candidate Anna\nhome 7: 0+\n# candidate Bo\nhome 9: 1-"), [("Anna".to_string(), after)]);
     // Names that aren't in UTF-8, beside one that is.
     let names: Vec<String> = candidates("file", b"candidate J\xF6rg\ncandidate J\xC3\xB6rg").into_iter().map(|c| c.name).collect();
     assert_eq!(names, ["Jörg", "Jörg"]);
@@ -92,6 +108,9 @@ fn rows_of_a_spreadsheet() {
     assert_eq!(read("\u{FEFF}Anna\t7: 0+ 1-\n\"Bo, late\"\t\"home 9: 1-\nhome 7: 0+ 1-\"\nCy\tblocked 7 9"), three);
     assert_eq!(read("\"\"\"Al\"\"\",blocked none\nNo One,\n"), right(&[("\"Al\"", &[0]), ("No One", &[])]));
     assert_eq!(read("Łucja,blocked 7\n"), right(&[("Łucja", &[1, 7])]));
+    assert_eq!(read(" name ,entries\n Name ,blocked 7 # late\n"), right(&[("Name", &[1, 7])]));
+    assert_eq!(read("\"Anna\" ,\"blocked 7\" \n"), right(&[("Anna", &[1, 7])]));
+    assert_eq!(read("Bo; Cy, late\tblocked 7\n"), right(&[("Bo; Cy, late", &[1, 7])]));
     let mistaken = read("Anna,7: 0+ 1-\nBo,7: 0+\n,7: 0+\n\"Cy\" x,7: 0+\nDi,\"7: 0+\n\n9: 1\"\nEd,7: 0+,\"9: 1-\nFy,7: 0+\n");
     let expected = [
         ("Anna", Ok(vec![0, 7, 2, 0, 3])),
@@ -129,13 +148,38 @@ fn odd_rows_are_malformed() {
     // Quotes over several rows.
     expect("Anna,7: 0+\n\"Bo,7: 0+\nCy\",7: 0+\n", &[("Anna", seven()), ("Bo,7: 0+\nCy", mistake(2, "a name over several lines"))]);
     expect("\"Anna\nAbel\",7: 0+\nBo,7: 0+", &[("Anna\nAbel", mistake(1, "a name over several lines")), ("Bo", seven())]);
+    let after = |line, text: &str| mistake(line, &format!("{text:?} after the quote that closes a cell"));
+    expect("\"Cy\" x,\"7: 0+\" y\n", &[("Cy x", after(1, " x"))]);
+    expect("Cy,\"7: 0+\n9: 1-\" y\n", &[("Cy", after(2, " y"))]);
+    expect("Anna,7: 0+\n,\"", &[("Anna", seven()), ("(no name)", open(2, 2))]);
+    expect("Anna,7: 0+\n  ,7: 0+", &[("Anna", seven()), ("(no name)", mistake(2, "a candidate without a name"))]);
+    // A line's end of two characters is one.
+    let zone = |line| mistake(line, "\"0\" is no zone with + or - for its heading");
+    expect("Anna,7: 0\r\n\r\nBo,\"7: 0+\r\n9: 0\"\r\n", &[("Anna", zone(1)), ("Bo", zone(4))]);
+    expect("Anna,+7: 0+\n", &[("Anna", mistake(1, "\"+7:\" starts no line of a sheet: those are home and blocked"))]);
+    // A sheet that another separator parts from the name.
+    let in_name = |line| mistake(line, "part of a sheet in a name");
+    expect("Candidate 1,7: 0+\nCandidate 2,7: 0+", &[("Candidate 1", seven()), ("Candidate 2", seven())]);
+    expect("Anna,7: 0+;\nBo,7: 0+;\n", &[("file", mistake(1, "\"Anna,7:\" starts no line of a sheet: those are home and blocked"))]);
+    expect("Anna,7: 0+;9: 1-", &[("file", mistake(1, "\"Anna,7:\" starts no line of a sheet: those are home and blocked"))]);
+    expect("Anna,7: 0+\nBo;7: 0+ 1-,blocked none", &[("Anna", seven()), ("Bo;7: 0+ 1-", in_name(2))]);
+    expect("Anna,7: 0+\nBo;\"7: 0+ 1-\",\nCy|blocked 7,,", &[("Anna", seven()), ("Bo;\"7: 0+ 1-\"", in_name(2)), ("Cy|blocked 7", in_name(3))]);
+    expect("Anna\t7: 0+\n#3;blocked 7", &[("Anna", seven()), ("#3;blocked 7", alone(2, "'\\t'"))]);
+    // A cell is no comment.
+    expect("Anna,#NAME?\nBo,#7: 0+", &[
+        ("Anna", mistake(1, "\"#NAME?\" starts no line of a sheet: those are home and blocked")),
+        ("Bo", mistake(2, "\"#7:\" starts no line of a sheet: those are home and blocked")),
+    ]);
+    expect("name,1,2\nAnna,7: 0+\n", &[("Anna", seven())]);
+    expect("name,home,blocked\nAnna,7: 0+\n\u{FEFF}Bo,7: 0+", &[("Anna", seven()), ("Bo", seven())]);
+    expect("Name,Home 7: 0+\nBo,7: 0+\n", &[("Name", mistake(1, "\"Home\" starts no line of a sheet: those are home and blocked")), ("Bo", seven())]);
     // Comments, and names that start as one.
     expect("# room 4\n,,\nname,entries\nAnna,7: 0+\n# absent\n", &[("Anna", seven())]);
     expect("Anna,7: 0+\n#2,7: 0+\n#3,\n", &[("Anna", seven()), ("#2", seven()), ("#3", mistake(3, "a comment, or a candidate without a sheet"))]);
     expect("#1,7: 0+\n#2,7: 0+\n", &[("file", mistake(1, "nothing but comments"))]);
     // Names that start as a line of a sheet does.
     expect("board A,7: 0+\nverdict,blocked 7\n", &[("board A", seven()), ("verdict", Ok(vec![1, 7]))]);
-    expect("home team,7: 0+\nhome 7: 0+,\n", &[("home team", seven()), ("home 7: 0+", mistake(2, "a line of a sheet in a name"))]);
+    expect("home team,7: 0+\nhome 7: 0+,\n", &[("home team", seven()), ("home 7: 0+", mistake(2, "part of a sheet in a name"))]);
     // A readable file with a line that isn't.
     expect("Yard, 4\ncandidate Anna\nhome 7: 0+\n", &[("file", mistake(1, "a line before the first candidate")), ("Anna", seven())]);
 }
@@ -145,6 +189,7 @@ fn a_sheet_in_bytes() {
     let read = |file: &[u8]| candidates("file", file).remove(0).sheet.map_err(|mistake| mistake.to_string());
     assert_eq!(read(&[0, 0, 1, 7, 0, 2, 0, 0, 0, 3]), Ok(vec![0, 263, 2, 0, 3]));
     assert_eq!(read(&[0, 2]), Ok(vec![2]));
+    assert_eq!(read(b"\0h\0o\0m"), Err("1: a byte 0, which no text has; a text is to be in UTF-8".to_string()));
     // A text in another encoding isn't marked, nor one with a stray control character.
     assert_eq!(read(b"\xFF\xFEb\0"), Err("1: a byte 0, which no text has; a text is to be in UTF-8".to_string()));
     assert_eq!(read(b"\x1B[2Jhome 7: 0+"), Err("1: \"\\u{1b}[2Jhome\" starts no line of a sheet: those are home and blocked".to_string()));

@@ -20,7 +20,7 @@ pub use board::{read, Board, Rule, Zone};
 pub use collapse::{collapse, left};
 pub use fault::{fault, Fault, Reason};
 pub use key::{key, key_by, key_of, named, Key};
-pub use refused::{refused_at, Refused};
+pub use refused::{refused_at, Wrong};
 pub use replay::{replay, Move, Position, Replay, HOME};
 pub use searched::{tries, Try};
 pub use sheet::{mark, mark_by};

@@ -4,7 +4,7 @@ use crate::board::Zone;
 
 /// What is wrong with a board, in the order in which it is looked for. Zones and points count from 0.
 #[derive(Clone, Debug, PartialEq, Eq)]
-pub enum Refused {
+pub enum Wrong {
     /// It has so many bytes, under 6.
     Short { bytes: usize },
     /// L, and how many bytes follow it.
@@ -33,9 +33,9 @@ pub enum Refused {
     Apart { point: usize },
 }
 
-use Refused::*;
+use Wrong::*;
 
-impl Refused {
+impl Wrong {
     /// The number of its row.
     pub fn number(&self) -> u32 {
         match self {
@@ -53,7 +53,7 @@ impl Refused {
 }
 
 /// What is wrong with a board in bytes, by the first row that holds; none where the board is accepted.
-pub fn refused_at(bytes: &[u8]) -> Option<Refused> {
+pub fn refused_at(bytes: &[u8]) -> Option<Wrong> {
     let &[high, low, version, points, home, count, ref zones @ ..] = bytes else {
         return Some(Short { bytes: bytes.len() });
     };
@@ -91,7 +91,7 @@ fn zone(bytes: &[u8]) -> Zone {
     Zone { a: bytes[0].into(), b: bytes[1].into(), carrier, heading: bytes[bytes.len() - 1].into() }
 }
 
-fn bad_zone(points: usize, zones: &[Zone]) -> Option<Refused> {
+fn bad_zone(points: usize, zones: &[Zone]) -> Option<Wrong> {
     zones.iter().enumerate().find_map(|(zone, z)| {
         if let Some(end) = [z.a, z.b].into_iter().find(|&end| end >= points) {
             Some(End { zone, end: end as u8 })
@@ -103,7 +103,7 @@ fn bad_zone(points: usize, zones: &[Zone]) -> Option<Refused> {
     })
 }
 
-fn twice(zones: &[Zone]) -> Option<Refused> {
+fn twice(zones: &[Zone]) -> Option<Wrong> {
     zones.iter().enumerate().filter(|(_, z)| z.carrier != 0).find_map(|(zone, z)| {
         let before = zones[..zone].iter().position(|other| other.carrier == z.carrier)?;
         Some(Twice { carrier: z.carrier as u16, zones: [before, zone] })
@@ -111,7 +111,7 @@ fn twice(zones: &[Zone]) -> Option<Refused> {
 }
 
 /// A point's zones are counted by their ends, so that a turning loop counts twice.
-fn loose(points: usize, home: usize, zones: &[Zone]) -> Option<Refused> {
+fn loose(points: usize, home: usize, zones: &[Zone]) -> Option<Wrong> {
     (0..points).filter(|&p| p != home).find_map(|point| {
         let ends = zones.iter().flat_map(|z| [z.a, z.b]).filter(|&end| end == point).count();
         (ends < 2).then_some(Loose { point, zones: ends })
@@ -119,7 +119,7 @@ fn loose(points: usize, home: usize, zones: &[Zone]) -> Option<Refused> {
 }
 
 /// The points that hang together with home are spread over the zones until no zone joins one of them to another.
-fn apart(points: usize, home: usize, zones: &[Zone]) -> Option<Refused> {
+fn apart(points: usize, home: usize, zones: &[Zone]) -> Option<Wrong> {
     let mut with_home = vec![false; points];
     with_home[home] = true;
     while let Some(z) = zones.iter().find(|z| with_home[z.a] != with_home[z.b]) {

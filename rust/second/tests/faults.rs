@@ -4,7 +4,7 @@ use second::document_01::{far_loop, k, refused, starred, t, turn, SHEETS_FOR_K};
 use second::document_02::{at_gate, loops_refused, one_blocked, to_loop, turning_loops, two_zones, versions_refused, SHEETS_FOR_LOOP};
 use second::document_02::{wide_carriers, wide_sheets, wide_t};
 use second::Reason::{self, *};
-use second::Refused::{self, *};
+use second::Wrong::{self, *};
 use second::{fault, left, mark, read, refused_at, Board, Fault, Zone};
 use std::collections::HashMap;
 use std::mem::discriminant;
@@ -205,7 +205,7 @@ fn false_claims() {
 fn refused_boards() {
     let [short, cut, .., loose, apart] = refused();
     let pair = |a, b| [a, b, 0, 0];
-    let rows: Vec<(Vec<u8>, Refused)> = vec![
+    let rows: Vec<(Vec<u8>, Wrong)> = vec![
         (vec![], Short { bytes: 0 }),
         (short, Short { bytes: 3 }),
         (vec![0, 3, 9, 9, 9], Short { bytes: 5 }),

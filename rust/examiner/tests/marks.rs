@@ -53,6 +53,14 @@ fn every_reason_in_words() {
 }
 
 #[test]
+fn a_long_list_is_cut() {
+    let far_loop = board("points 4 home 0\n0-1 5>\n1-2 6>\n2-3\n2-3");
+    let claim: Vec<u16> = [1, 5, 6].into_iter().chain(101..=200).collect();
+    let named: Vec<String> = (101..=196).map(|carrier: u16| carrier.to_string()).collect();
+    assert_eq!(line(&far_loop, &claim), format!("35  false claim of blocked: named but not blocked: {} and 4 more", named.join(" ")));
+}
+
+#[test]
 fn lines_rows_and_counts() {
     let k = board("points 2 home 0\n0-1 7>\n0-1");
     let sheets = [("Anna", "home 7: 0+ 1-"), ("=1+1", "home 7: 0+ 0-"), ("Cy, \"late\"\x1b[2J", "home 7"), ("D", "blocked 7"), ("E", "home 7: 0+")];
@@ -86,7 +94,7 @@ fn lines_rows_and_counts() {
     for name in ["A,B", "A;B", "A B\""] {
         assert!(rows(&of(&[name])).ends_with(&format!("\n\"{}\",{empty}\n", name.replace('"', "\"\""))), "{name}");
     }
-    assert!(rows(&of(&["A\tB\u{9B}2J\u{202E}"])).ends_with(&format!("\nA\\u{{9}}B\\u{{9b}}2J\\u{{202e}},{empty}\n")));
+    assert!(rows(&of(&["A\tB\u{9B}2J\u{202E}\u{200B}"])).ends_with(&format!("\nA\\u{{9}}B\\u{{9b}}2J\\u{{202e}}\\u{{200b}},{empty}\n")));
     // The names' column is as wide as the longest name, up to 40 characters.
     let long = "n".repeat(41);
     let counted = "sheets 2, right 0, wrong 2 (30: 2), malformed 0\n";

@@ -60,6 +60,8 @@ fn mistakes_have_their_lines() {
     assert_eq!(sheet("\n# nothing, at all; really\n"), Err("1: nothing but comments".to_string()));
     // A page on one line.
     assert_eq!(sheet("board 2 points verdict 0 home 7: 0+ 1- blocked none"), Err("1: more than a board line, which is passed over".to_string()));
+    assert_eq!(sheet("board 4 home 7 0+"), Err("1: more than a board line, which is passed over".to_string()));
+    assert_eq!(sheet("home 4294967303: 0+"), Err("1: carrier 4294967303 is over 65535".to_string()));
     assert_eq!(sheet("verdict 20 blocked 7 9"), Err("1: more than a verdict line, which is passed over".to_string()));
     let long = format!("home 7:{}", " 0+".repeat(65_536));
     assert_eq!(sheet(&long), Err("1: a route has no more than 65535 words".to_string()));
@@ -85,8 +87,9 @@ fn several_candidates_in_a_file() {
     let no_candidate = Err("3: \"candidates\" starts no line of a sheet: those are home and blocked".to_string());
     assert_eq!(read("candidate Anna\nblocked 7\ncandidates\n"), [("Anna".to_string(), no_candidate)]);
     // The sheet goes on lines of its own.
-    let stuck = ["Anna,blocked 7", "Bo;7: 0+ 1-", "Cy blocked 7, 9", "Di home 7 0+ 1-", "Ed home 7: 0+ 1", "Fy Blocked 7", "Gi home 7:"];
-    for name in ["Anna home 7: 0+ 1-", "Anna\t7: 0+", "Anna blocked 7"].into_iter().chain(stuck) {
+    let parted = ["Anna home 7: 0+ 1-", "Anna\t7: 0+", "Anna blocked 7", "Anna,blocked 7", "Bo;7: 0+ 1-", "Cy blocked 7, 9"];
+    let mistyped = ["Di home 7 0+ 1-", "Ed home 7: 0+ 1", "Fy Blocked 7", "Gi home 7:", "Hy blocked none"];
+    for name in parted.into_iter().chain(mistyped) {
         let two = [("Zoe".to_string(), Ok(vec![1, 7])), (name.to_string(), Err("3: part of a sheet in a name".to_string()))];
         assert_eq!(read(&format!("candidate Zoe\nblocked 7\ncandidate {name}")), two);
     }
@@ -138,12 +141,18 @@ fn odd_rows_are_malformed() {
     expect("name,\"entries\nAnna,\"7: 0+\nBo,7: 0+", &[("name", mistake(2, "\"7: 0+\" after the quote that closes a cell")), ("Bo", seven())]);
     expect("Name,7: 0+\nBo,7: 0+\n", &[("Name", seven()), ("Bo", seven())]);
     expect("name,7: 0\nBo,7: 0+\n", &[("name", mistake(1, "\"0\" is no zone with + or - for its heading")), ("Bo", seven())]);
+    let home_line = mistake(1, "a home line is the carrier, a colon and its route, as in: home 7: 0+ 1-");
+    expect("name,home 7 0+\nBo,7: 0+", &[("name", home_line), ("Bo", seven())]);
+    let no_line = |line, word: &str| mistake(line, &format!("{word:?} starts no line of a sheet: those are home and blocked"));
+    expect("name,entries\nname,entries\nBo,7: 0+", &[("name", no_line(2, "entries")), ("Bo", seven())]);
+    expect("name,\"two\nlines\"\nBo,7: 0+", &[("name", no_line(1, "two")), ("Bo", seven())]);
+    expect("name,\"entries\" x\nBo,7: 0+", &[("name", mistake(1, "\" x\" after the quote that closes a cell")), ("Bo", seven())]);
+    expect("Yard\nAnna,7: 0+", &[("file", no_line(1, "Yard"))]);
     // Another separator in some rows.
     expect("name,entries\nAnna;7: 0+\nBo,7: 0+", &[("Anna;7: 0+", alone(2, "','")), ("Bo", seven())]);
     expect("Cy; x,7: 0+\nBo,7: 0+\n", &[("Cy; x", seven()), ("Bo", seven())]);
     expect("Cy, x;7: 0+\nBo;7: 0+\nDi, y;7: 0+", &[("Cy, x", seven()), ("Bo", seven()), ("Di, y", seven())]);
-    let other_heads = mistake(1, "\"one\" starts no line of a sheet: those are home and blocked");
-    expect("name\tentries, one a cell\nAnna,7: 0+\nBo,7: 0+", &[("name\tentries", other_heads), ("Anna", seven()), ("Bo", seven())]);
+    expect("name\tentries, one a cell\nAnna,7: 0+\nBo,7: 0+", &[("name\tentries", no_line(1, "one")), ("Anna", seven()), ("Bo", seven())]);
     expect("sep=;\nname;entries\nAnna;7: 0+", &[("Anna", seven())]);
     // Quotes over several rows.
     expect("Anna,7: 0+\n\"Bo,7: 0+\nCy\",7: 0+\n", &[("Anna", seven()), ("Bo,7: 0+\nCy", mistake(2, "a name over several lines"))]);
@@ -156,23 +165,20 @@ fn odd_rows_are_malformed() {
     // A line's end of two characters is one.
     let zone = |line| mistake(line, "\"0\" is no zone with + or - for its heading");
     expect("Anna,7: 0\r\n\r\nBo,\"7: 0+\r\n9: 0\"\r\n", &[("Anna", zone(1)), ("Bo", zone(4))]);
-    expect("Anna,+7: 0+\n", &[("Anna", mistake(1, "\"+7:\" starts no line of a sheet: those are home and blocked"))]);
+    expect("Anna,+7: 0+\n", &[("Anna", no_line(1, "+7:"))]);
     // A sheet that another separator parts from the name.
     let in_name = |line| mistake(line, "part of a sheet in a name");
     expect("Candidate 1,7: 0+\nCandidate 2,7: 0+", &[("Candidate 1", seven()), ("Candidate 2", seven())]);
-    expect("Anna,7: 0+;\nBo,7: 0+;\n", &[("file", mistake(1, "\"Anna,7:\" starts no line of a sheet: those are home and blocked"))]);
-    expect("Anna,7: 0+;9: 1-", &[("file", mistake(1, "\"Anna,7:\" starts no line of a sheet: those are home and blocked"))]);
+    expect("Anna,7: 0+;\nBo,7: 0+;\n", &[("file", no_line(1, "Anna,7:"))]);
+    expect("Anna,7: 0+;9: 1-", &[("file", no_line(1, "Anna,7:"))]);
     expect("Anna,7: 0+\nBo;7: 0+ 1-,blocked none", &[("Anna", seven()), ("Bo;7: 0+ 1-", in_name(2))]);
     expect("Anna,7: 0+\nBo;\"7: 0+ 1-\",\nCy|blocked 7,,", &[("Anna", seven()), ("Bo;\"7: 0+ 1-\"", in_name(2)), ("Cy|blocked 7", in_name(3))]);
     expect("Anna\t7: 0+\n#3;blocked 7", &[("Anna", seven()), ("#3;blocked 7", alone(2, "'\\t'"))]);
     // A cell is no comment.
-    expect("Anna,#NAME?\nBo,#7: 0+", &[
-        ("Anna", mistake(1, "\"#NAME?\" starts no line of a sheet: those are home and blocked")),
-        ("Bo", mistake(2, "\"#7:\" starts no line of a sheet: those are home and blocked")),
-    ]);
+    expect("Anna,#NAME?\nBo,#7: 0+", &[("Anna", no_line(1, "#NAME?")), ("Bo", no_line(2, "#7:"))]);
     expect("name,1,2\nAnna,7: 0+\n", &[("Anna", seven())]);
     expect("name,home,blocked\nAnna,7: 0+\n\u{FEFF}Bo,7: 0+", &[("Anna", seven()), ("Bo", seven())]);
-    expect("Name,Home 7: 0+\nBo,7: 0+\n", &[("Name", mistake(1, "\"Home\" starts no line of a sheet: those are home and blocked")), ("Bo", seven())]);
+    expect("Name,Home 7: 0+\nBo,7: 0+\n", &[("Name", no_line(1, "Home")), ("Bo", seven())]);
     // Comments, and names that start as one.
     expect("# room 4\n,,\nname,entries\nAnna,7: 0+\n# absent\n", &[("Anna", seven())]);
     expect("Anna,7: 0+\n#2,7: 0+\n#3,\n", &[("Anna", seven()), ("#2", seven()), ("#3", mistake(3, "a comment, or a candidate without a sheet"))]);
@@ -189,6 +195,8 @@ fn a_sheet_in_bytes() {
     let read = |file: &[u8]| candidates("file", file).remove(0).sheet.map_err(|mistake| mistake.to_string());
     assert_eq!(read(&[0, 0, 1, 7, 0, 2, 0, 0, 0, 3]), Ok(vec![0, 263, 2, 0, 3]));
     assert_eq!(read(&[0, 2]), Ok(vec![2]));
+    assert!(read(&[1, 2]).is_err());
+    assert_eq!(read(b"home 7: 0+\n\nblocked\0none"), Err("3: a byte 0, which no text has; a text is to be in UTF-8".to_string()));
     assert_eq!(read(b"\0h\0o\0m"), Err("1: a byte 0, which no text has; a text is to be in UTF-8".to_string()));
     // A text in another encoding isn't marked, nor one with a stray control character.
     assert_eq!(read(b"\xFF\xFEb\0"), Err("1: a byte 0, which no text has; a text is to be in UTF-8".to_string()));

@@ -58,7 +58,9 @@ pub fn written(random: &mut Random, lines: &[String]) -> String {
             text += part.trim_end();
             text += if part.ends_with(' ') { any(random, &[" ", " ", "  ", "\t"]) } else { "" };
         }
-        text += any(random, &["", "", " ", " # and 1-2 19>", "#"]);
+        // A number in a comment after blocked carriers could be one of them.
+        let comment = if line.starts_with("blocked") { " # both, \"late\"" } else { " # and 1-2 19>" };
+        text += any(random, &["", "", " ", comment, "#"]);
         text += any(random, &["\n", "\n", "\r\n"]);
     }
     // A text may end without a line's end, and a spreadsheet's with the mark of UTF-8 before it.

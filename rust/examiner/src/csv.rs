@@ -5,6 +5,9 @@ use crate::text::{quoted, Mistake};
 use std::iter::Peekable;
 use std::str::Chars;
 
+/// What may part the cells of a row.
+pub const SEPARATORS: [char; 3] = [',', ';', '\t'];
+
 /// A cell: its text, and the line where it starts.
 pub struct Cell {
     pub line: usize,
@@ -35,7 +38,7 @@ pub fn separator(text: &str) -> Option<char> {
         let mut rows = Rows::new(text, separator).filter(Row::says).map(|row| row.cells.len() > 1).peekable();
         if rows.peek() == Some(&true) { rows.filter(|&parted| parted).count() } else { 0 }
     };
-    let parting = [',', ';', '\t'].into_iter().map(|separator| (parted(separator), separator)).filter(|&(rows, _)| rows > 0);
+    let parting = SEPARATORS.into_iter().map(|separator| (parted(separator), separator)).filter(|&(rows, _)| rows > 0);
     // Of several that are greatest, the last is taken.
     parting.max_by_key(|&(rows, _)| rows).map(|(_, separator)| separator)
 }

@@ -44,6 +44,9 @@ fn decoded_line(line: &[u8]) -> String {
     String::from_utf8(line.to_vec()).unwrap_or_else(|_| line.iter().map(|&byte| char::from(byte)).collect())
 }
 
+/// What may end a line: of a text the first two, and in a word processor the others too.
+pub const LINE_ENDS: [char; 7] = ['\n', '\r', '\u{B}', '\u{C}', '\u{85}', '\u{2028}', '\u{2029}'];
+
 /// The lines with their numbers. A line ends with a line feed, a carriage return, or both. Where texts were put one after another, one may start with
 /// the mark of UTF-8.
 pub fn lines(text: &str) -> impl Iterator<Item = (usize, &str)> {

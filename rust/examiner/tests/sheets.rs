@@ -28,7 +28,7 @@ fn lines_say_the_words() {
     assert_eq!(sheet("blocked none"), Ok(vec![0]));
     assert_eq!(sheet(""), Ok(vec![]));
     assert_eq!(sheet(" \n\r\n"), Ok(vec![]));
-    assert_eq!(sheet("board 4\nverdict"), Ok(vec![]));
+    assert_eq!(sheet("board\t4\tpoints\nverdict"), Ok(vec![]));
     assert_eq!(sheet("\thome  007 :\t0+   32767- \r\n"), Ok(vec![0, 7, 2, 0, 65_535]));
     assert_eq!(sheet("home 65535:"), Ok(vec![0, 65_535, 0]));
     assert_eq!(sheet("home 0: 0+"), Ok(vec![0, 0, 1, 0]));
@@ -62,6 +62,17 @@ fn mistakes_have_their_lines() {
     assert_eq!(sheet("board 2 points verdict 0 home 7: 0+ 1- blocked none"), Err("1: more than a board line, which is passed over".to_string()));
     assert_eq!(sheet("board 4 home 7 0+"), Err("1: more than a board line, which is passed over".to_string()));
     assert_eq!(sheet("home 4294967303: 0+"), Err("1: carrier 4294967303 is over 65535".to_string()));
+    // A stray # in a line.
+    let routes = ["home 7:# 0+ 1-", "home 7: 0+ #1-", "home 7: 0+# 1–", "home 7: 0+ # then home 9: 1-", "home 7: 0+ # Blocked None"];
+    for stray in routes.into_iter().chain(["blocked 5 # blocked 6", "blocked 5 #6", "blocked 5 # and 6"]) {
+        assert_eq!(sheet(stray), Err("1: part of a sheet in a comment".to_string()));
+    }
+    for more in ["verdict Blocked 5 6", "verdict BLOCKED", "board 3 Home 7 0 1", "board 3 7 0+", "verdict 0 7 0+1-", "board 3: 7 0"] {
+        let word = more.split(' ').next().unwrap();
+        assert_eq!(sheet(more), Err(format!("1: more than a {word} line, which is passed over")));
+    }
+    assert_eq!(sheet("home 7: 0+ 1- # he took 2 minutes, 9 in all\nblocked none # 9:40"), Ok(vec![0, 7, 2, 0, 3]));
+    assert_eq!(sheet("verdict 0\nboard 3; late"), Err("2: more than a board line, which is passed over".to_string()));
     assert_eq!(sheet("verdict 20 blocked 7 9"), Err("1: more than a verdict line, which is passed over".to_string()));
     let long = format!("home 7:{}", " 0+".repeat(65_536));
     assert_eq!(sheet(&long), Err("1: a route has no more than 65535 words".to_string()));
@@ -88,16 +99,31 @@ fn several_candidates_in_a_file() {
     assert_eq!(read("candidate Anna\nblocked 7\ncandidates\n"), [("Anna".to_string(), no_candidate)]);
     // The sheet goes on lines of its own.
     let parted = ["Anna home 7: 0+ 1-", "Anna\t7: 0+", "Anna blocked 7", "Anna,blocked 7", "Bo;7: 0+ 1-", "Cy blocked 7, 9"];
-    let mistyped = ["Di home 7 0+ 1-", "Ed home 7: 0+ 1", "Fy Blocked 7", "Gi home 7:", "Hy blocked none"];
-    for name in parted.into_iter().chain(mistyped) {
+    let mistyped = ["Di home 7 0+ 1-", "Ed home 7: 0+ 1", "Fy Blocked 7", "Gi home 7:", "Hy blocked none", "Io Blocked None"];
+    let dashed = ["Ky 7: 1–", "Ly 7: 1\u{96} 0\u{96}", "My 7: 1－", "No 7: 1＋", "Oz 7: 1-0-", "Pi: 70000-"];
+    for name in parted.into_iter().chain(mistyped).chain(dashed) {
         let two = [("Zoe".to_string(), Ok(vec![1, 7])), (name.to_string(), Err("3: part of a sheet in a name".to_string()))];
         assert_eq!(read(&format!("candidate Zoe\nblocked 7\ncandidate {name}")), two);
     }
     assert_eq!(read("candidate Group 2: Anna\nblocked 7"), right(&[("Group 2: Anna", &[1, 7])]));
+    for name in ["12- Anna", "Anna 4", "Al-1-b", "Bo 1 - 2", "1–2", "Cy 4b-", "Home 7"] {
+        assert_eq!(read(&format!("candidate {name}\nblocked 7")), right(&[(name, &[1, 7])]));
+    }
+    for end in ['\u{B}', '\u{C}', '\u{2028}'] {
+        let two_lines = format!("Anna{end}candidate Bo");
+        assert_eq!(read(&format!("candidate {two_lines}\nblocked 7")), [(two_lines, Err("1: a name over several lines".to_string()))]);
+    }
     // What stands in comments may have been meant.
+    let beside = |name: &str| [(name.to_string(), Err("1: part of a sheet in a comment".to_string()))];
+    assert_eq!(read("candidate Anna # blocked 5 6\n"), beside("Anna"));
+    assert_eq!(read("candidate Anna # home 7: 0+\nblocked none"), beside("Anna"));
+    assert_eq!(read("candidate Anna # came at 9:40\nblocked 7"), right(&[("Anna", &[1, 7])]));
+    let below = Err("3: a line after a candidate in a comment".to_string());
+    assert_eq!(read("candidate Anna\nblocked none # candidate Bo\nhome 7: 0+"), [("Anna".to_string(), below)]);
+    assert_eq!(read("candidate Anna\nblocked none # candidate of the left room\n# late"), right(&[("Anna", &[0])]));
     assert_eq!(read("candidate Anna\n#home 7: 0+"), [("Anna".to_string(), Err("2: a sheet in a comment".to_string()))]);
     let after = Err("4: a line after a candidate in a comment".to_string());
-    assert_eq!(read("candidate Anna\nhome 7: 0+\n# candidate Bo\nhome 9: 1-"), [("Anna".to_string(), after)]);
+    assert_eq!(read("candidate Anna\nhome 7: 0+\n## candidate Bo\nhome 9: 1-"), [("Anna".to_string(), after)]);
     // Names that aren't in UTF-8, beside one that is.
     let names: Vec<String> = candidates("file", b"candidate J\xF6rg\ncandidate J\xC3\xB6rg").into_iter().map(|c| c.name).collect();
     assert_eq!(names, ["Jörg", "Jörg"]);
@@ -169,6 +195,28 @@ fn odd_rows_are_malformed() {
     // A sheet that another separator parts from the name.
     let in_name = |line| mistake(line, "part of a sheet in a name");
     expect("Candidate 1,7: 0+\nCandidate 2,7: 0+", &[("Candidate 1", seven()), ("Candidate 2", seven())]);
+    // Rows that start as a `candidate` line does.
+    let dash = |line, word: &str| mistake(line, &format!("{word:?} is no zone with + or - for its heading"));
+    expect("Candidate 4,7: 1–", &[("Candidate 4", dash(1, "1–"))]);
+    expect("candidate 4,7: 1–\nAnna,7: 0+", &[("candidate 4", dash(1, "1–")), ("Anna", seven())]);
+    expect("candidate Anna\nhome 7: 0+\ncandidate 4,7: 1−", &[("Anna", seven()), ("4,7: 1−", mistake(3, "part of a sheet in a name"))]);
+    expect("#3,\"blocked 12\",\nCandidate 4,\"11: 1–\"", &[("#3", Ok(vec![1, 12])), ("Candidate 4", dash(2, "1–"))]);
+    expect("Candidate 1;7: 0+\nCandidate 2;\nCandidate 3;bloked none", &[
+        ("Candidate 1", seven()),
+        ("Candidate 2", Ok(vec![])),
+        ("Candidate 3", no_line(3, "bloked")),
+    ]);
+    let page = "\"board 1 points 1 zones 1 out\nverdict 0\nhome 7: 0+\nblocked none\"";
+    expect(&format!("Candidate 1,{page}\nCandidate 2,7: 0+"), &[("Candidate 1", seven()), ("Candidate 2", seven())]);
+    expect("Candidate Anna # ill, absent\nCandidate Bo\nhome 7: 0+", &[("Anna", Ok(vec![])), ("Bo", seven())]);
+    expect("Candidate 1\t7: 0+\nCandidate 2\t", &[("Candidate 1", seven()), ("Candidate 2", Ok(vec![]))]);
+    expect("Candidate\tbloked 7\nAnna\t7: 0+", &[("Candidate", no_line(1, "bloked")), ("Anna", seven())]);
+    expect("Candidate\tAnna\nhome 7: 0+", &[("Anna", seven())]);
+    let row = |line| mistake(line, "a spreadsheet's row, or a candidate without a sheet");
+    expect("Candidate Anna\nhome 7: 0+\nCandidate 4,bloked none", &[("Anna", seven()), ("4,bloked none", row(3))]);
+    expect("Candidate Abel, Anna\n# room 4\n  home 7: 0+", &[("Abel, Anna", seven())]);
+    expect("Candidate Abel, Anna\nhome 7: 0+\nCandidate Baker, Bo", &[("Abel, Anna", seven()), ("Baker, Bo", row(3))]);
+    expect(" candidate Abel, Anna\ncandidate Baker, Bo\nhome 7: 0+", &[("Abel, Anna", Ok(vec![])), ("Baker, Bo", seven())]);
     expect("Anna,7: 0+;\nBo,7: 0+;\n", &[("file", no_line(1, "Anna,7:"))]);
     expect("Anna,7: 0+;9: 1-", &[("file", no_line(1, "Anna,7:"))]);
     expect("Anna,7: 0+\nBo;7: 0+ 1-,blocked none", &[("Anna", seven()), ("Bo;7: 0+ 1-", in_name(2))]);
@@ -176,6 +224,7 @@ fn odd_rows_are_malformed() {
     expect("Anna\t7: 0+\n#3;blocked 7", &[("Anna", seven()), ("#3;blocked 7", alone(2, "'\\t'"))]);
     // A cell is no comment.
     expect("Anna,#NAME?\nBo,#7: 0+", &[("Anna", no_line(1, "#NAME?")), ("Bo", no_line(2, "#7:"))]);
+    expect("Anna,7: 0+ # late\nBo,7:# 0+", &[("Anna", seven()), ("Bo", mistake(2, "part of a sheet in a comment"))]);
     expect("name,1,2\nAnna,7: 0+\n", &[("Anna", seven())]);
     expect("name,home,blocked\nAnna,7: 0+\n\u{FEFF}Bo,7: 0+", &[("Anna", seven()), ("Bo", seven())]);
     expect("Name,Home 7: 0+\nBo,7: 0+\n", &[("Name", no_line(1, "Home")), ("Bo", seven())]);
@@ -185,6 +234,7 @@ fn odd_rows_are_malformed() {
     expect("#1,7: 0+\n#2,7: 0+\n", &[("file", mistake(1, "nothing but comments"))]);
     // Names that start as a line of a sheet does.
     expect("board A,7: 0+\nverdict,blocked 7\n", &[("board A", seven()), ("verdict", Ok(vec![1, 7]))]);
+    expect("board A,bloked 7\nboard B,\n", &[("board A", no_line(1, "bloked")), ("board B", Ok(vec![]))]);
     expect("home team,7: 0+\nhome 7: 0+,\n", &[("home team", seven()), ("home 7: 0+", mistake(2, "part of a sheet in a name"))]);
     // A readable file with a line that isn't.
     expect("Yard, 4\ncandidate Anna\nhome 7: 0+\n", &[("file", mistake(1, "a line before the first candidate")), ("Anna", seven())]);

@@ -95,6 +95,28 @@ pub fn chain(points: usize, held: impl Fn(usize) -> bool) -> Board {
     Board { points, home: 0, zones: (0..points).map(zone).collect() }
 }
 
+/// Boards with the most zones between the same points, turning loops at one point, and points, all zones held: by carriers with many digits.
+pub fn hard_to_draw() -> Vec<Board> {
+    let full = |points: usize, ends: Vec<(usize, usize)>| {
+        let zones = ends.into_iter().enumerate().map(|(z, (a, b))| Zone { a, b, carrier: 65_535 - z as u32, heading: (z % 2) as u32 }).collect();
+        Board { points, home: 0, zones }
+    };
+    let with_loops = |points: usize, at: fn(usize) -> usize| {
+        let chain = (1..points).map(|p| (p - 1, p));
+        full(points, chain.chain((points..=96).map(|z| (at(z) % points, at(z) % points))).collect())
+    };
+    vec![
+        full(2, vec![(0, 1); 96]),
+        full(3, (0..96).map(|z| (z % 3, (z + 1) % 3)).collect()),
+        full(5, (0..96).map(|z| (z % 5, (z + 1 + z / 5 % 2) % 5)).collect()),
+        full(64, (0..96).map(|z| (z % 64, (z + 1 + z / 64 * 31) % 64)).collect()),
+        with_loops(2, |_| 1),
+        with_loops(6, |z| 5 - z % 5),
+        with_loops(64, |z| 63 - (z - 64)),
+        with_loops(64, |_| 63),
+    ]
+}
+
 /// The board with each carrier's heading drawn anew.
 pub fn headed(random: &mut Random, mut board: Board) -> Board {
     for zone in board.zones.iter_mut().filter(|z| z.carrier != 0) {

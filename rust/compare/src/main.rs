@@ -4,6 +4,7 @@
 mod blocked;
 mod copies;
 mod copy_tally;
+mod drawn;
 mod faults;
 mod gate;
 mod loops;
@@ -20,6 +21,7 @@ use compare::random::Random;
 use compare::{logs, sheets};
 use copies::{compare_copies, compare_copy, compare_each_zone, compare_every_sheet, Wanted};
 use copy_tally::CopyTally;
+use drawn::{compare_drawn, DrawnTally};
 use gate::GateTally;
 use loops::LoopTally;
 use places::PlaceTally;
@@ -51,6 +53,7 @@ struct Tally {
     replays: ReplayTally,
     single_moves: usize,
     copies: CopyTally,
+    drawn: DrawnTally,
     first_faults: usize,
     places: PlaceTally,
     said: usize,
@@ -300,6 +303,25 @@ fn any_board(random: &mut Random, points: usize, zones: usize, sparse: usize) ->
     boards::renumbered(random, board, numbers)
 }
 
+/// Pictures and pages of boards of every size, and of those that are the hardest to draw.
+fn compare_pictures(tally: &mut DrawnTally, random: &mut Random) {
+    let mut draw = |random: &mut Random, board: &Board| {
+        let bytes = boards::written(random, board);
+        compare_drawn(tally, board, &bytes, &second::key(&bytes, 20_000, 96));
+    };
+    for round in 0..800 {
+        let (points, zones) = if round % 5 == 0 { (2 + random.below(63), 2 + random.below(95)) } else { (2 + random.below(8), 2 + random.below(13)) };
+        let sparse = 1 + random.below(4);
+        let board = any_board(random, points, zones, sparse);
+        if board.zones.len() <= 96 {
+            draw(random, &board);
+        }
+    }
+    for board in boards::hard_to_draw() {
+        draw(random, &board);
+    }
+}
+
 fn main() {
     let mut random = Random::new(SEED);
     let mut tally = Tally::default();
@@ -399,6 +421,7 @@ fn main() {
         let replay = compare_replay(&mut tally.replays, &bytes, Some(&board), &lent);
         compare_copies(&mut tally.copies, &mut random, &board, &bytes, &replay.sheet);
     }
+    compare_pictures(&mut tally.drawn, &mut random);
     tally.first_faults += compare_each_zone(&boards::accepted(&mut random, 2, 96, 1, Loops::OnceIn(4)));
     if !tally.loops.fair() {
         println!("too few boards or sheets with turning loops of some kind: {:?}", tally.loops);
@@ -432,6 +455,10 @@ fn main() {
         println!("too few faults of some kind, or too few sheets in lines: {:?}, {}", tally.places, tally.said);
         std::process::exit(1);
     }
+    if !tally.drawn.fair() {
+        println!("too few pictures of some kind, or too small a print: {:?}", tally.drawn);
+        std::process::exit(1);
+    }
     println!(
         "{} boards ({} accepted), {} sheets ({} passed), {} replays, {} writes ({} copies), {} boards by exhaustion, {} of them full, \
          {} single moves on small ones, {} writes by their first fault: no difference",
@@ -447,6 +474,7 @@ fn main() {
     println!("copies: {:?}", tally.copies);
     println!("sheets in lines, rows and bytes: {}", tally.said);
     println!("faults by the examiner's tool: {:?}", tally.places);
+    println!("pictures and pages: {:?}", tally.drawn);
     println!("verdicts {:?}", tally.verdicts);
     println!("marks {:?}", tally.marks);
 }

@@ -8,8 +8,11 @@ use examiner::board_file::hexadecimal_shown;
 use examiner::candidates::{candidates, Candidate};
 use examiner::marks::{counts, malformed, marked, rows, shared_names, table, Marked};
 use examiner::moves::{self, forbidden, move_shown, Log};
-use examiner::page::page;
+use examiner::page::page as key_page;
+use examiner::paper::paper;
+use examiner::picture::{Picture, Told};
 use examiner::refused;
+use examiner::sitting::sitting;
 use nizkabel::owned;
 use nizkabel::{COPY_ROOM, POSITION_ROOM};
 use std::ffi::{OsStr, OsString};
@@ -63,7 +66,9 @@ pub fn run(given: &[OsString]) -> Result<u8, Stop> {
     match command.to_str() {
         Some("board") => board(arguments(rest, &["--bytes", "--hex"])?),
         Some("key") => key(arguments(rest, &[])?),
+        Some("draw") => draw(arguments(rest, &["--key"])?),
         Some("mark") => mark(arguments(rest, &["--csv"])?),
+        Some("page") => page(arguments(rest, &["--paper"])?),
         Some("replay") => replay(arguments(rest, &["--write", "--bytes", "--hex"])?),
         _ => Err(usage(&format!("there is no command {}", name(command)))),
     }
@@ -92,7 +97,7 @@ fn board(arguments: Arguments) -> Result<u8, Stop> {
 fn key(arguments: Arguments) -> Result<u8, Stop> {
     let [file] = arguments.files[..] else { return Err(usage("key takes one board")) };
     let given = files::given(file)?;
-    print(page(&given.bytes))?;
+    print(key_page(&given.bytes))?;
     let too_long = if given.bytes.len() > COPY_ROOM { "too long, " } else { "" };
     match Board::accepted(&given.bytes) {
         Ok(_) => Ok(0),
@@ -100,43 +105,74 @@ fn key(arguments: Arguments) -> Result<u8, Stop> {
     }
 }
 
-/// Every file is read before any sheet is marked, so that where one can't be read no part of the marks is taken for all of them.
+/// The picture. Who is blocked is the library's list, and the order of leaving its plan.
+fn draw(arguments: Arguments) -> Result<u8, Stop> {
+    let [file] = arguments.files[..] else { return Err(usage("draw takes one board")) };
+    let board = files::board(file)?;
+    let key = owned::key(board.bytes())?;
+    let told = if arguments.has("--key") { Told::Leaving(&key) } else { Told::Blocked(&key) };
+    print(Picture::new(&board, told).file())?;
+    Ok(0)
+}
+
+/// The page of a sitting, or the candidate's paper, for which no key is asked.
+fn page(arguments: Arguments) -> Result<u8, Stop> {
+    let [file, sheets @ ..] = &arguments.files[..] else { return Err(usage("page takes a board, and sheets if there are any")) };
+    if arguments.has("--paper") {
+        if !sheets.is_empty() {
+            return Err(usage("page --paper takes one board"));
+        }
+        print(paper(&files::board(file)?))?;
+        return Ok(0);
+    }
+    let board = files::board(file)?;
+    let marks = mark_all(&board, sheets)?;
+    let key = owned::key(board.bytes())?;
+    print(sitting(&files::last_name(file), &board, &key, &marks))?;
+    all_marked(&marks)
+}
+
 fn mark(arguments: Arguments) -> Result<u8, Stop> {
-    let [board, files @ ..] = &arguments.files[..] else { return Err(usage("mark takes a board and sheets")) };
-    if files.is_empty() {
+    let [board, sheets @ ..] = &arguments.files[..] else { return Err(usage("mark takes a board and sheets")) };
+    if sheets.is_empty() {
         return Err(usage("mark takes a board and sheets"));
     }
-    let progress = Progress::new();
-    let board = files::board(board)?;
-    let mut all: Vec<(String, Candidate)> = Vec::new();
-    for file in files {
-        all.extend(candidates(&name(file), &files::whole(file)?).into_iter().map(|candidate| (name(file), candidate)));
-    }
-    let marks = mark_all(&board, all, progress);
+    let marks = mark_all(&files::board(board)?, sheets)?;
     if arguments.has("--csv") {
         print(rows(&marks))?;
         say(counts(&marks).trim_end());
     } else {
         print(table(&marks))?;
     }
-    for (name, sheets) in shared_names(&marks) {
-        say(&format!("{sheets} sheets have the name {name}"));
-    }
-    match malformed(&marks) {
-        0 => Ok(0),
-        1 => Err(Stop::answered("1 sheet is malformed and not marked".to_string())),
-        several => Err(Stop::answered(format!("{several} sheets are malformed and not marked"))),
-    }
+    all_marked(&marks)
 }
 
-fn mark_all(board: &Board, all: Vec<(String, Candidate)>, mut progress: Progress) -> Vec<Marked> {
+/// Every file is read before any sheet is marked, so that where one can't be read no part of the marks is taken for all of them.
+fn mark_all(board: &Board, files: &[&OsStr]) -> Result<Vec<Marked>, Stop> {
+    let mut progress = Progress::new();
+    let mut all: Vec<(String, Candidate)> = Vec::new();
+    for file in files {
+        all.extend(candidates(&name(file), &files::whole(file)?).into_iter().map(|candidate| (name(file), candidate)));
+    }
     let of = all.len();
     let mut marks = Vec::with_capacity(of);
     for (file, candidate) in all {
         progress.done(marks.len(), of);
         marks.push(marked(board, &file, candidate));
     }
-    marks
+    Ok(marks)
+}
+
+/// Says which names several sheets have, and whether every sheet is marked.
+fn all_marked(marks: &[Marked]) -> Result<u8, Stop> {
+    for (name, sheets) in shared_names(marks) {
+        say(&format!("{sheets} sheets have the name {name}"));
+    }
+    match malformed(marks) {
+        0 => Ok(0),
+        1 => Err(Stop::answered("1 sheet is malformed and not marked".to_string())),
+        several => Err(Stop::answered(format!("{several} sheets are malformed and not marked"))),
+    }
 }
 
 /// Where a replay stopped and why, as the board has it that the moves before led to.

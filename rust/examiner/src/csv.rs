@@ -116,10 +116,13 @@ impl Iterator for Rows<'_> {
     }
 }
 
+/// What a formula may start with, to some spreadsheets also in the wide forms.
+const FORMULA: [char; 8] = ['=', '+', '-', '@', '\u{FF1D}', '\u{FF0B}', '\u{FF0D}', '\u{FF20}'];
+
 /// A row to be read by a spreadsheet, of texts on one line. One that it would take for a formula gets an apostrophe before it.
 pub fn row(cells: &[&str]) -> String {
     let cell = |text: &&str| {
-        let text = if text.starts_with(['=', '+', '-', '@']) { format!("'{text}") } else { text.to_string() };
+        let text = if text.trim_start().starts_with(FORMULA) { format!("'{text}") } else { text.to_string() };
         if text.contains([',', ';', '"']) { format!("\"{}\"", text.replace('"', "\"\"")) } else { text }
     };
     cells.iter().map(cell).collect::<Vec<_>>().join(",") + "\n"

@@ -9,6 +9,7 @@ use std::ffi::OsStr;
 use std::fs::File;
 use std::io::{self, ErrorKind, IsTerminal, Read, Write};
 use std::os::fd::AsFd;
+use std::path::Path;
 
 /// Whether a file is standard input, under whichever name.
 pub fn is_input(file: &OsStr) -> bool {
@@ -21,6 +22,14 @@ pub fn name(file: &OsStr) -> String {
         _ if is_input(file) => "standard input".to_string(),
         name if name.is_empty() => "\"\"".to_string(),
         name => shown(&name),
+    }
+}
+
+/// The same without the folders that it is in.
+pub fn last_name(file: &OsStr) -> String {
+    match Path::new(file).file_name() {
+        Some(last) if !is_input(file) => name(last),
+        _ => name(file),
     }
 }
 

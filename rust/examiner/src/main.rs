@@ -1,4 +1,4 @@
-//! The examiner's tool: `nizkabel board`, `key`, `mark` and `replay`. It reads files, asks the proved library and shows what it says. What goes to
+//! The examiner's tool: `nizkabel board`, `key`, `draw`, `mark`, `page` and `replay`. It reads files, asks the proved library and shows what it says. What goes to
 //! standard output is made whole first and then written; whatever fails is said on standard error, and the status isn't 0.
 
 mod commands;
@@ -37,7 +37,11 @@ const HELP: &str = "\
 nizkabel board BOARD [--bytes | --hex]           a board in any form as readable text, bytes or hexadecimal; the bytes are
                                                  the library's fair copy, in version 1 where every carrier is at most 255
 nizkabel key BOARD                               the key: who goes home in which order, and who is blocked
+nizkabel draw BOARD [--key]                      a picture of the board (SVG), blocked carriers with eight corners; --key adds
+                                                 the order of leaving
 nizkabel mark BOARD SHEETS.. [--csv]             the marks of candidates' sheets, with the place of each fault
+nizkabel page BOARD [SHEETS..]                   a page (HTML) with the picture, the key, each route drawn, and the marks
+nizkabel page --paper BOARD                      the candidate's paper (HTML): the picture and the rules, nothing of the key
 nizkabel replay BOARD LOG [--write] [--bytes | --hex]
                                                  where a log of single moves leads; --write gives that board
 
@@ -62,7 +66,7 @@ Log      7 1-                carrier 7 goes into zone 1, heading from its second
 Texts are in UTF-8, and # starts a comment. Entries, words, moves and lines are counted from 1, points and zones
 from 0.
 
-Status   0  done; of mark: every sheet has its mark, whatever it is; of replay: every move was carried out
+Status   0  done; of mark and page: every sheet has its mark, whatever it is; of replay: every move was carried out
          1  the library refuses the board or the log, a sheet is malformed and not marked, or a replay stopped
          2  the command isn't understood, a file can't be read, a board or a log is malformed, or the output can't
             be written

@@ -88,7 +88,7 @@ fn lines_rows_and_counts() {
     let empty_sheet = |name: &&str| marked(&k, "f", Candidate { name: name.to_string(), sheet: Ok(vec![]) });
     let of = |names: &[&str]| -> Vec<_> { names.iter().map(empty_sheet).collect() };
     let empty = "30,not a whole sheet,,,,,,empty";
-    for name in ["=1", "+1", "-1", "@1"] {
+    for name in ["=1", "+1", "-1", "@1", " =1", "\u{FF1D}1", "\u{FF0B}1", "\u{FF0D}1", "\u{FF20}1"] {
         assert!(rows(&of(&[name])).ends_with(&format!("\n'{name},{empty}\n")), "{name}");
     }
     for name in ["A,B", "A;B", "A B\""] {

@@ -95,7 +95,7 @@ pub fn chain(points: usize, held: impl Fn(usize) -> bool) -> Board {
     Board { points, home: 0, zones: (0..points).map(zone).collect() }
 }
 
-/// Boards with the most zones between the same points, turning loops at one point, and points, all zones held: by carriers with many digits.
+/// Boards with the most zones between the same points, near or far, turning loops at one point, and points; all zones held, by carriers of five digits.
 pub fn hard_to_draw() -> Vec<Board> {
     let full = |points: usize, ends: Vec<(usize, usize)>| {
         let zones = ends.into_iter().enumerate().map(|(z, (a, b))| Zone { a, b, carrier: 65_535 - z as u32, heading: (z % 2) as u32 }).collect();
@@ -110,7 +110,12 @@ pub fn hard_to_draw() -> Vec<Board> {
         full(3, (0..96).map(|z| (z % 3, (z + 1) % 3)).collect()),
         full(5, (0..96).map(|z| (z % 5, (z + 1 + z / 5 % 2) % 5)).collect()),
         full(64, (0..96).map(|z| (z % 64, (z + 1 + z / 64 * 31) % 64)).collect()),
+        full(64, (0..64).map(|p| (p, (p + 1) % 64)).chain([(21, 22); 32]).collect()),
+        full(12, (0..12).map(|p| (p, (p + 1) % 12)).chain([(4, 5); 84]).collect()),
+        full(64, (0..64).map(|p| (p, (p + 1) % 64)).chain([(21, 24); 32]).collect()),
         with_loops(2, |_| 1),
+        with_loops(3, |_| 2),
+        with_loops(10, |_| 9),
         with_loops(6, |z| 5 - z % 5),
         with_loops(64, |z| 63 - (z - 64)),
         with_loops(64, |_| 63),

@@ -1,7 +1,7 @@
 //! The examiner's pictures and pages against the board and the second implementation's key: read by their tags and coordinates.
 
 use crate::differ;
-use compare::drawing::{leaving_order, Drawing, Told};
+use compare::drawing::{entries, Drawing, Told};
 use compare::tags::{self, Element};
 use examiner::board::Board;
 use examiner::paper::paper;
@@ -20,20 +20,21 @@ pub struct DrawnTally {
     several_leave: usize,
     over_40_zones: usize,
     wide: usize,
-    /// The smallest print of a carrier's number, in hundredths of a point.
+    /// The smallest print of a text, in hundredths of a point.
     smallest_print: usize,
 }
 
 impl DrawnTally {
     fn add(&mut self, board: &second::Board, key: &Key, print: f64) {
         let zones = &board.zones;
-        let parallel = |n: usize| zones[..n].iter().any(|other| other.a != other.b && [(other.a, other.b), (other.b, other.a)].contains(&(zones[n].a, zones[n].b)));
+        let same_ends = |one: &second::Zone, other: &second::Zone| [(other.a, other.b), (other.b, other.a)].contains(&(one.a, one.b));
+        let parallel = |n: usize| !zones[n].is_loop() && zones[..n].iter().any(|other| same_ends(&zones[n], other));
         self.boards += 1;
         self.parallel += usize::from((0..zones.len()).any(parallel));
         self.turning_loops += usize::from(zones.iter().any(|zone| zone.is_loop()));
         self.full += usize::from(zones.iter().all(|zone| zone.carrier != 0));
         self.some_blocked += usize::from(!key.list.is_empty());
-        self.several_leave += usize::from(leaving_order(key).len() > 3);
+        self.several_leave += usize::from(entries(key).len() > 3);
         self.over_40_zones += usize::from(zones.len() > 40);
         self.wide += usize::from(zones.iter().any(|zone| zone.carrier > 9_999));
         let print = (100.0 * print) as usize;
@@ -43,18 +44,34 @@ impl DrawnTally {
     /// Whether there were enough of each kind, and every print is large enough to be read.
     pub fn fair(&self) -> bool {
         let kinds = [self.parallel, self.turning_loops, self.full, self.some_blocked, self.several_leave, self.over_40_zones, self.wide];
-        kinds.iter().all(|&boards| boards >= 50) && self.smallest_print >= 490
+        kinds.iter().all(|&boards| boards >= 50) && self.smallest_print >= 450
     }
 }
 
+/// The elements that pages and pictures have, none of which fetches or runs anything.
+const ELEMENTS: &str = "html head meta title style body header nav main section footer h1 h2 p ul ol li a figure table caption thead tbody tr th \
+                        td code strong span svg desc defs g use path rect circle polygon text";
+/// Their attributes. `href` leads to an id.
+const ATTRIBUTES: &str = "lang charset name content class id href scope role aria-label aria-labelledby aria-hidden xmlns viewBox width height x y \
+                          cx cy r rx d points font-size fill stroke-width stroke-dasharray data-zone data-point";
+
 /// A page's or a picture's tags, read strictly.
 fn read(what: &str, bytes: &[u8], text: &str) -> Element {
-    tags::read(text).unwrap_or_else(|mistake| differ(what, bytes, format!("{mistake}\n{text}")))
+    let root = tags::read(text).unwrap_or_else(|mistake| differ(what, bytes, format!("{mistake}\n{text}")));
+    let is_in = |list: &str, name: &str| list.split(' ').any(|known| known == name);
+    for element in root.all() {
+        let other = element.attributes.iter().find(|(name, _)| !is_in(ATTRIBUTES, name));
+        if !is_in(ELEMENTS, &element.name) || other.is_some() {
+            differ(what, bytes, format!("an element {} {other:?}", element.name));
+        }
+    }
+    root
 }
 
 /// The texts of the cells of the table of a class, row by row.
 fn cells(page: &Element, class: &str) -> Vec<Vec<String>> {
-    let rows = page.of_class(class).into_iter().filter(|element| element.name == "table").flat_map(|table| table.named("tbody")).flat_map(|body| body.named("tr"));
+    let tables = page.of_class(class).into_iter().filter(|element| element.name == "table");
+    let rows = tables.flat_map(|table| table.named("tbody")).flat_map(|body| body.named("tr"));
     let cell = |cell: &&Element| ["th", "td"].contains(&cell.name.as_str());
     rows.map(|row| row.all().into_iter().filter(cell).map(|cell| cell.text()).collect()).collect()
 }
@@ -98,37 +115,68 @@ pub fn compare_drawn(tally: &mut DrawnTally, board: &second::Board, bytes: &[u8]
     }
     tally.add(board, key, print);
     compare_tables(board, bytes, key, &page, &paper);
+    compare_routes(board, bytes, key, &page);
+    compare_rules(bytes, &paper);
 }
 
-/// The tables of the pages, and that the paper tells nothing of the key.
+/// The small pictures of routes, against the picture of the page.
+fn compare_routes(board: &second::Board, bytes: &[u8], key: &Key, page: &Element) {
+    let (drawing, small, entries) = (Drawing::read(page.of_class("board")[0]), page.of_class("route"), entries(key));
+    if small.len() != entries.len() {
+        differ("a picture for each route", bytes, format!("{} pictures", small.len()));
+    }
+    for (place, (svg, (carrier, route))) in small.into_iter().zip(&entries).enumerate() {
+        let gone = |carrier: u32| entries[..=place].iter().any(|&(earlier, _)| earlier == carrier);
+        let held: Vec<usize> = (0..board.zones.len()).filter(|&z| board.zones[z].carrier != 0 && !gone(board.zones[z].carrier)).collect();
+        if let Some(wrong) = drawing.wrong_route(svg, route, &held) {
+            differ("the picture of a route", bytes, format!("carrier {carrier}: {wrong}"));
+        }
+    }
+}
+
+/// The text of a part of a page.
+fn section(page: &Element, id: &str) -> Option<String> {
+    page.named("section").into_iter().find(|section| section.attribute("aria-labelledby") == Some(id)).map(|section| section.text())
+}
+
+/// The rules and the task are the same on every paper, with no whole line that could be an answer.
+fn compare_rules(bytes: &[u8], paper: &Element) {
+    let k = [0, 12, 1, 2, 0, 2, 0, 1, 7, 0, 0, 1, 0, 0];
+    let of_k = Board::accepted(&k).map(|board| read("the paper of K", &k, &examiner::paper::paper(&board)));
+    let same = |id: &str| of_k.as_ref().is_ok_and(|of_k| section(of_k, id).is_some() && section(of_k, id) == section(paper, id));
+    let shown: Vec<String> = paper.named("code").iter().map(|code| code.text()).collect();
+    if !same("rules") || !same("task") || shown != ["3+", "3-", "+"] {
+        differ("the rules and the task", bytes, paper.text());
+    }
+}
+
+/// The tables of the pages; those of the paper have nothing of the key.
 fn compare_tables(board: &second::Board, bytes: &[u8], key: &Key, page: &Element, paper: &Element) {
-    let order = leaving_order(key);
+    let entries = entries(key);
     let mut zones = zone_rows(board);
     if cells(paper, "zones") != zones || cells(paper, "blank").iter().flat_map(|row| &row[1..]).any(|cell| !cell.is_empty()) {
         differ("the paper's tables", bytes, paper.text());
     }
     for (row, zone) in zones.iter_mut().zip(&board.zones) {
-        row.push(match order.iter().position(|&carrier| carrier == zone.carrier) {
+        row.push(match entries.iter().position(|&(carrier, _)| carrier == zone.carrier) {
             _ if zone.carrier == 0 => String::new(),
             None => "blocked".to_string(),
             Some(place) => place_said(place + 1),
         });
     }
-    let mut routes = Vec::new();
-    let mut rest = &key.plan[..];
-    while let [carrier, count, words @ ..] = rest {
-        let (words, next) = words.split_at(usize::from(*count));
+    let route = |(place, &(carrier, words)): (usize, &(u32, &[u16]))| {
         let route: Vec<String> = words.iter().map(|word| format!("{}{}", word / 2, ["+", "-"][usize::from(word % 2)])).collect();
-        let title = format!("Route of carrier {carrier}, drawn");
-        routes.push(vec![place_said(routes.len() + 1), carrier.to_string(), route.join(" "), title]);
-        rest = next;
-    }
+        vec![place_said(place + 1), carrier.to_string(), route.join(" "), format!("Route of carrier {carrier}, drawn")]
+    };
+    let routes: Vec<Vec<String>> = entries.iter().enumerate().map(route).collect();
     let blocked: Vec<String> = key.list.iter().map(|carrier| carrier.to_string()).collect();
-    let said = page.text();
-    let expected = if blocked.is_empty() { "None.".to_string() } else { format!("{} carriers: blocked {}\n", blocked.len(), blocked.join(" ")) };
-    let counted = format!("{}. It tells how hard", key.searched);
-    if cells(page, "zones") != zones || cells(page, "key") != routes || !said.contains(&expected) || !said.contains(&counted) {
-        differ("the page's tables", bytes, format!("{:?}\n{:?}\n{said}", cells(page, "zones"), cells(page, "key")));
+    let blocked = if blocked.is_empty() { "None.".to_string() } else { format!("{} carriers: blocked {}", blocked.len(), blocked.join(" ")) };
+    let counted = page.named("strong").first().map(|count| count.text());
+    if cells(page, "zones") != zones || cells(page, "key") != routes || counted != Some(key.searched.to_string()) {
+        differ("the page's tables", bytes, page.text());
+    }
+    if section(page, "blocked") != Some(format!("\nBlocked carriers\n{blocked}\n")) {
+        differ("the page's blocked carriers", bytes, format!("{:?}", section(page, "blocked")));
     }
 }
 

@@ -309,7 +309,7 @@ fn compare_pictures(tally: &mut DrawnTally, random: &mut Random) {
         let bytes = boards::written(random, board);
         compare_drawn(tally, board, &bytes, &second::key(&bytes, 20_000, 96));
     };
-    for round in 0..800 {
+    for round in 0..500 {
         let (points, zones) = if round % 5 == 0 { (2 + random.below(63), 2 + random.below(95)) } else { (2 + random.below(8), 2 + random.below(13)) };
         let sparse = 1 + random.below(4);
         let board = any_board(random, points, zones, sparse);

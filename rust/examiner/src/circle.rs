@@ -2,25 +2,25 @@
 
 use crate::board::Board;
 
-/// How bad an order is: the crossings of zones, then how many points the zones pass on their shorter way round, in all.
+/// How bad an order is: the crossings of zones, then how many places apart their ends are on the shorter way round, in all.
 type Cost = (i64, i64);
 
 /// Points in an order round a circle, and each point's place in it.
 #[derive(Clone)]
-struct Round<'a> {
+struct Circle<'a> {
     order: Vec<usize>,
     place: Vec<usize>,
     /// The points that zones lead to from each point, one for each zone.
     joined: &'a [Vec<usize>],
 }
 
-impl<'a> Round<'a> {
+impl<'a> Circle<'a> {
     fn new(order: Vec<usize>, joined: &'a [Vec<usize>]) -> Self {
         let mut place = vec![0; order.len()];
         for (at, &point) in order.iter().enumerate() {
             place[point] = at;
         }
-        Round { order, place, joined }
+        Circle { order, place, joined }
     }
 
     /// How many places clockwise from one point to another.
@@ -28,15 +28,15 @@ impl<'a> Round<'a> {
         (self.place[to] + self.order.len() - self.place[from]) % self.order.len()
     }
 
-    fn passed(&self, point: usize) -> i64 {
+    fn apart(&self, point: usize) -> i64 {
         self.joined[point].iter().map(|&other| self.after(point, other).min(self.after(other, point)) as i64).sum()
     }
 
-    /// Exchanges the points at a place and the next, and gives what that costs. Only zones of one cross other zones of the other than before.
+    /// Exchanges the points at a place and the next, and gives what that costs. Only crossings between a zone of one and a zone of the other change.
     fn exchange(&mut self, at: usize) -> Cost {
         let next = (at + 1) % self.order.len();
         let (left, right) = (self.order[at], self.order[next]);
-        let passed = self.passed(left) + self.passed(right);
+        let apart = self.apart(left) + self.apart(right);
         let mut crossings = 0;
         let others = |point: usize| self.joined[point].iter().copied().filter(move |&other| other != left && other != right);
         for a in others(left) {
@@ -46,20 +46,20 @@ impl<'a> Round<'a> {
         }
         self.order.swap(at, next);
         self.place.swap(left, right);
-        (crossings, self.passed(left) + self.passed(right) - passed)
+        (crossings, self.apart(left) + self.apart(right) - apart)
     }
 
     /// Moves a point once round and back to where the cost is least. Gives what that saves, as a cost below or equal to none.
     fn sift(&mut self, point: usize) -> Cost {
-        let (mut cost, mut best, mut best_round) = ((0, 0), (0, 0), self.clone());
+        let (mut cost, mut best, mut best_circle) = ((0, 0), (0, 0), self.clone());
         for _ in 1..self.order.len() {
             let change = self.exchange(self.place[point]);
             cost = (cost.0 + change.0, cost.1 + change.1);
             if cost < best {
-                (best, best_round) = (cost, self.clone());
+                (best, best_circle) = (cost, self.clone());
             }
         }
-        *self = best_round;
+        *self = best_circle;
         best
     }
 
@@ -81,13 +81,13 @@ impl<'a> Round<'a> {
             let apart = |&&(c, d): &&(usize, usize)| ![c, d].contains(&a) && ![c, d].contains(&b) && within(c) != within(d);
             crossings += chords[..n].iter().filter(apart).count() as i64;
         }
-        (crossings, (0..self.order.len()).map(|point| self.passed(point)).sum())
+        (crossings, (0..self.order.len()).map(|point| self.apart(point)).sum())
     }
 }
 
-/// The points as they are first met from home along zones, the lowest first and on from there.
-fn as_met(home: usize, joined: &[Vec<usize>]) -> Vec<usize> {
-    let (mut met, mut ahead) = (Vec::new(), vec![home]);
+/// The points as they are first met along zones from one on, the lowest first and on from there.
+fn as_met(first: usize, joined: &[Vec<usize>]) -> Vec<usize> {
+    let (mut met, mut ahead) = (Vec::new(), vec![first]);
     while let Some(point) = ahead.pop() {
         if !met.contains(&point) {
             met.push(point);
@@ -99,24 +99,27 @@ fn as_met(home: usize, joined: &[Vec<usize>]) -> Vec<usize> {
     met
 }
 
-/// The points clockwise from home on. Each point is sifted from two first orders, and the better one is taken; of an order and its mirror image the
-/// one whose second point is lower.
+/// The points clockwise from home on. From several first orders, by number and as met from some of the points, each point is sifted, and the best is
+/// taken; of an order and its mirror image the one whose second point is lower.
 pub fn order(board: &Board) -> Vec<usize> {
+    const STARTS: usize = 16;
     let points = usize::from(board.points);
     let mut joined = vec![Vec::new(); points];
     for zone in board.zones.iter().filter(|zone| zone.a != zone.b) {
         joined[usize::from(zone.a)].push(usize::from(zone.b));
         joined[usize::from(zone.b)].push(usize::from(zone.a));
     }
-    let home = usize::from(board.home);
-    let improved = |first: Vec<usize>| {
-        let mut round = Round::new(first, &joined);
-        round.improve();
-        round
-    };
-    let (by_number, by_zones) = (improved((0..points).collect()), improved(as_met(home, &joined)));
-    let Round { mut order, place, .. } = if by_zones.cost() < by_number.cost() { by_zones } else { by_number };
-    order.rotate_left(place[home]);
+    let mut best = Circle::new((0..points).collect(), &joined);
+    best.improve();
+    for first in (0..points).step_by(points.div_ceil(STARTS)) {
+        let mut circle = Circle::new(as_met(first, &joined), &joined);
+        circle.improve();
+        if circle.cost() < best.cost() {
+            best = circle;
+        }
+    }
+    let Circle { mut order, place, .. } = best;
+    order.rotate_left(place[usize::from(board.home)]);
     if order[1] > order[points - 1] {
         order[1..].reverse();
     }

@@ -116,8 +116,10 @@ impl Iterator for Rows<'_> {
     }
 }
 
-/// What a formula may start with, to some spreadsheets also in the wide forms.
-const FORMULA: [char; 8] = ['=', '+', '-', '@', '\u{FF1D}', '\u{FF0B}', '\u{FF0D}', '\u{FF20}'];
+/// What a formula may start with, to some spreadsheets also in the wide forms, and the small ones in case.
+const FORMULA: [char; 13] = [
+    '=', '+', '-', '@', '\u{FF1D}', '\u{FF0B}', '\u{FF0D}', '\u{FF20}', '\u{FE66}', '\u{FE62}', '\u{FE63}', '\u{FE6B}', '\u{2212}',
+];
 
 /// A row to be read by a spreadsheet, of texts on one line. One that it would take for a formula gets an apostrophe before it.
 pub fn row(cells: &[&str]) -> String {

@@ -33,16 +33,11 @@ pub fn curves(draft: &Draft) -> Vec<Curve> {
     let mut bundles: Vec<Bundle> = bundles(draft).into_iter().map(|((a, b), zones)| Bundle::new(draft, a, b, zones)).collect();
     bundles.sort_by(|a, b| a.kind.cmp(&b.kind).then(if a.kind == Kind::Across { a.length().total_cmp(&b.length()) } else { Ordering::Equal }));
     let mut curves = vec![Curve([Spot::ZERO; 4]); draft.board.zones.len()];
-    let mut taken = draft.marks();
+    let mut taken = draft.signs();
     for bundle in bundles {
-        let mut options = match bundle.kind {
-            Kind::Loops => vec![bundle.loops(&taken)],
-            Kind::Beside => bundle.beside(),
-            Kind::Across => bundle.across(),
-        };
-        let (chosen, areas) = (0..options.len()).find_map(|n| Some((n, bundle.room(&options[n], &taken)?))).unwrap_or_default();
-        taken.extend(areas);
-        for (zone, curve) in bundle.zones.into_iter().zip(options.swap_remove(chosen)) {
+        let drawn = bundle.drawn_well(&taken);
+        taken.extend(bundle.room(&drawn, &taken).unwrap_or_default());
+        for (&zone, curve) in bundle.zones.iter().zip(drawn) {
             curves[zone] = curve;
         }
     }
@@ -88,7 +83,7 @@ impl<'a> Bundle<'a> {
         let inward = if middle.length() > 1e-6 * draft.radius { (middle * -1.0).unit() } else { way.right() };
         let (mut along, mut across): (f64, f64) = (0.0, 0.0);
         for &zone in &zones {
-            let Spot { x: width, y: height } = Label::size(way, &draft.words[zone]);
+            let Spot { x: width, y: height } = Label::size(way, &draft.texts[zone]);
             along = along.max(width * way.x.abs() + height * way.y.abs());
             across = across.max(width * way.y.abs() + height * way.x.abs());
         }
@@ -103,13 +98,27 @@ impl<'a> Bundle<'a> {
         (self.to - self.from).length()
     }
 
+    /// Turning loops fanned out, others straight, aside or fanned out: the first way on which the labels have room, or the first of all where none has.
+    fn drawn_well(&self, taken: &[Area]) -> Vec<Curve> {
+        let mut options = match self.kind {
+            Kind::Loops => return self.fanned(taken).unwrap_or_else(|| self.fan(0.12, taken)),
+            Kind::Beside => self.beside(),
+            Kind::Across => self.across(),
+        };
+        let has_room = |drawn: &Vec<Curve>| self.room(drawn, taken).is_some();
+        match options.iter().position(has_room) {
+            Some(first) => options.swap_remove(first),
+            None => self.fanned(taken).filter(has_room).unwrap_or_else(|| options.swap_remove(0)),
+        }
+    }
+
     /// The boxes of the labels on these curves, at or near their middles, where none lies on what is taken or on another.
     fn room(&self, drawn: &[Curve], taken: &[Area]) -> Option<Vec<Area>> {
         let mut found: Vec<Area> = Vec::new();
         for (&zone, &curve) in self.zones.iter().zip(drawn) {
-            let areas = |time: &f64| self.draft.label(zone, curve, *time).areas();
-            let free = |area: &Area| !taken.iter().chain(&found).any(|taken| taken.meets(area.wider(GAP)));
-            let areas = [0.5, 0.4, 0.6, 0.3, 0.7].iter().map(areas).find(|areas| areas.iter().all(free))?;
+            let areas = |time: f64| self.draft.label(zone, curve, time).areas_with(GAP);
+            let free = |areas: &Vec<Area>| !Area::any_meet(areas, taken) && !Area::any_meet(areas, &found);
+            let areas = [0.5, 0.4, 0.6, 0.3, 0.7].into_iter().map(areas).find(free)?;
             found.extend(areas);
         }
         Some(found)
@@ -121,12 +130,14 @@ impl<'a> Bundle<'a> {
         wanted.min(room / self.gaps().max(1.0)).max(NEAREST)
     }
 
+    /// The curve, turned so that it runs from the zone's first end to its second.
+    fn oriented(&self, zone: usize, curve: Curve) -> Curve {
+        if usize::from(self.draft.board.zones[zone].a) == self.ends[0] { curve } else { curve.reversed() }
+    }
+
     /// The curves, the first with its middle so far inward, each next one farther by so much. Each runs from its zone's first end to its second.
     fn drawn(&self, first: f64, apart: f64) -> Vec<Curve> {
-        let curve = |(n, &zone): (usize, &usize)| {
-            let curve = Curve::aside(self.from, self.to, self.inward * (first + apart * n as f64));
-            if usize::from(self.draft.board.zones[zone].a) == self.ends[0] { curve } else { curve.reversed() }
-        };
+        let curve = |(n, &zone): (usize, &usize)| self.oriented(zone, Curve::aside(self.from, self.to, self.inward * (first + apart * n as f64)));
         self.zones.iter().enumerate().map(curve).collect()
     }
 
@@ -154,36 +165,41 @@ impl<'a> Bundle<'a> {
         let apart = self.apart(0.8 * self.draft.radius);
         let straight = |apart: f64| -apart * self.gaps() / 2.0;
         let shifts = || (0..).map(|step| f64::from(step) * 4.0).take_while(|&shift| shift < self.draft.radius);
-        let mut tried = [1.0, 0.7, 0.4, 0.2].into_iter().flat_map(|part| shifts().map(move |shift| (apart * part, shift)));
+        let nearer = [1.0, 0.7, 0.4].map(|part| (apart * part).max(NEAREST));
+        // Nearer still where they would run through other points.
+        let mut tried = nearer.into_iter().chain([10.0]).flat_map(|apart| shifts().map(move |shift| (apart, shift)));
         let (apart, shift) = tried.find(|&(apart, shift)| self.passes(&self.drawn(straight(apart) + shift, apart))).unwrap_or((apart, 0.0));
         let farther = [0.0, 0.5, 1.0, 1.5, 2.0].map(|part| self.drawn(straight(apart) + shift + part * (self.across + POINT), apart));
         farther.into_iter().enumerate().filter(|(n, drawn)| *n == 0 || self.passes(drawn)).map(|(_, drawn)| drawn).collect()
     }
 
-    /// Turning loops, fanned out as wide as they stay outside the circle and off other points.
-    fn loops(&self, taken: &[Area]) -> Vec<Curve> {
-        let outside = |curve: &Curve| [0.1, 0.2, 0.3, 0.7, 0.8, 0.9].iter().all(|&time| curve.at(time).length() > 1.02 * self.draft.radius);
-        let fans = [0.42, 0.36, 0.3, 0.24, 0.18].into_iter().map(|widest| self.fan(widest, taken));
-        let clear = |fan: &Vec<Curve>| fan.iter().all(outside) && self.passes(fan);
-        fans.into_iter().find(clear).unwrap_or_else(|| self.fan(0.12, taken))
+    /// Fanned out as wide as they run clear of other points; turning loops also outside the circle.
+    fn fanned(&self, taken: &[Area]) -> Option<Vec<Curve>> {
+        let times: &[f64] = if self.kind == Kind::Loops { &[0.1, 0.2, 0.3, 0.7, 0.8, 0.9] } else { &[] };
+        let outside = |curve: &Curve| times.iter().all(|&time| curve.at(time).length() > 1.02 * self.draft.radius);
+        let mut fans = [0.42, 0.36, 0.3, 0.24, 0.18, 0.12].into_iter().map(|widest| self.fan(widest, taken));
+        fans.find(|fan| fan.iter().all(outside) && self.passes(fan))
     }
 
-    /// Turning loops fanned out at most by this part of a turn, each as short as its label has room.
+    /// Fanned out at most by this part of a turn, outward, or inward from points that aren't next to each other; each as short as its label has room.
     fn fan(&self, widest: f64, taken: &[Area]) -> Vec<Curve> {
+        let ahead = if self.kind == Kind::Across { self.inward } else { self.inward * -1.0 };
+        let toward_end = if (self.to - self.from).dot(ahead.right()) < 0.0 { -1.0 } else { 1.0 };
         let count = self.zones.len() as f64;
         let turn = (0.16 * count).min(widest) / count;
-        let side = if self.zones.len() == 1 { 0.8 } else { 0.55 * turn * std::f64::consts::TAU };
+        let slim = if self.zones.len() == 1 { 0.8 } else { 0.55 * turn * std::f64::consts::TAU };
         let (mut curves, mut taken) = (Vec::new(), taken.to_vec());
         for (n, &zone) in self.zones.iter().enumerate() {
-            let way = (self.inward * -1.0).turned(turn * (n as f64 - (count - 1.0) / 2.0));
+            let way = ahead.turned(turn * (n as f64 - (count - 1.0) / 2.0));
             let curve = |step: u32| {
                 let reach = 66.0 + 10.0 * f64::from(step);
-                let (tip, side) = (self.from + way * reach, way.right() * (reach * side).min(60.0));
-                Curve([self.from, tip - side, tip + side, self.from])
+                // Wide enough for its two sides to be told apart.
+                let side = way.right() * ((reach * slim).clamp(24.0, 60.0) * toward_end);
+                let tip = (self.from + self.to) * 0.5 + way * reach;
+                self.oriented(zone, Curve([self.from, tip - side, tip + side, self.to]))
             };
-            let areas = |curve: Curve| -> Vec<Area> { self.draft.label(zone, curve, 0.5).areas() };
-            let free = |curve: &Curve| areas(*curve).iter().all(|area| !taken.iter().any(|taken| taken.meets(area.wider(GAP))));
-            let found = (0..200).map(curve).find(free).unwrap_or(curve(0));
+            let areas = |curve: Curve| self.draft.label(zone, curve, 0.5).areas_with(GAP);
+            let found = (0..200).map(curve).find(|&curve| !Area::any_meet(&areas(curve), &taken)).unwrap_or(curve(0));
             taken.extend(areas(found));
             curves.push(found);
         }
@@ -195,6 +211,6 @@ impl<'a> Bundle<'a> {
         let clear = if self.kind == Kind::Across { 4.0 * GAP } else { 2.0 * GAP };
         let spots = &self.draft.spots;
         let others = || (0..spots.len()).filter(|point| !self.ends.contains(point));
-        curves.iter().map(|curve| curve.traced()).all(|curve| others().all(|point| curve.nearest(spots[point]) >= POINT + clear))
+        curves.iter().map(|curve| curve.traced()).all(|curve| others().all(|point| curve.nearest(spots[point]) >= self.draft.reach(point) + clear))
     }
 }

@@ -28,7 +28,7 @@ pub fn name(file: &OsStr) -> String {
 /// The same without the folders that it is in.
 pub fn last_name(file: &OsStr) -> String {
     match Path::new(file).file_name() {
-        Some(last) if !is_input(file) => name(last),
+        Some(last) if !is_input(file) => shown(&last.to_string_lossy()),
         _ => name(file),
     }
 }

@@ -35,6 +35,12 @@ pub fn heads_for(zone: &Zone, heading: u16) -> String {
     }
 }
 
+/// The table of the zones, with these columns after those of every board.
+pub fn zone_table(more: &[&str], rows: Vec<Vec<String>>) -> String {
+    let heads = [&["zone", "first end", "second end", "carrier", "heads"], more].concat();
+    table("zones", "The zones, each from its first end to its second", &heads, &rows)
+}
+
 /// The rows of the zones: number, ends, carrier and where it heads.
 pub fn zone_rows(board: &Board) -> Vec<Vec<String>> {
     let row = |(number, zone): (usize, &Zone)| {

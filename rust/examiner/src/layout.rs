@@ -1,11 +1,11 @@
-//! Where the points, zones and labels of a board are drawn: points on a circle, home at its left, on the smallest of several circles on which no label
-//! lies on another or on a point.
+//! Where the points, zones and labels of a board are drawn: points on a circle, home at its left. Circles are tried from small to large, up to one on
+//! which no label lies on another or on a point.
 
 use crate::board::{Board, Zone};
 use crate::circle;
 use crate::curves::curves;
-use crate::label::{Label, Words};
-use crate::places::{labels, Labels};
+use crate::label::{Label, Texts};
+use crate::labels::{labels, Labels};
 use crate::plane::{Area, Curve, Spot};
 use crate::shapes::{HOME, POINT};
 
@@ -36,7 +36,7 @@ impl Layout {
 /// A board to be laid out: what its labels say, its points clockwise from home, and where they stand on one circle.
 pub struct Draft<'a> {
     pub board: &'a Board,
-    pub words: &'a [Words],
+    pub texts: &'a [Texts],
     pub order: Vec<usize>,
     pub radius: f64,
     pub spots: Vec<Spot>,
@@ -50,21 +50,25 @@ impl Draft<'_> {
         }
     }
 
-    /// The points' marks, as boxes.
-    pub fn marks(&self) -> Vec<Area> {
-        let reach = |point: usize| if point == usize::from(self.board.home) { HOME } else { POINT };
-        self.spots.iter().enumerate().map(|(point, &spot)| Area::around(spot, 2.0 * reach(point), 2.0 * reach(point))).collect()
+    /// How far the sign of a point reaches.
+    pub fn reach(&self, point: usize) -> f64 {
+        if point == usize::from(self.board.home) { HOME } else { POINT }
+    }
+
+    /// The signs of the points, as boxes.
+    pub fn signs(&self) -> Vec<Area> {
+        self.spots.iter().enumerate().map(|(point, &spot)| Area::around(spot, 2.0 * self.reach(point), 2.0 * self.reach(point))).collect()
     }
 
     /// The label of a zone at a time of its curve.
     pub fn label(&self, zone: usize, curve: Curve, time: f64) -> Label {
         let heading = self.board.zones[zone].held.map_or(0, |held| held.heading);
-        Label::at(curve, time, heading, &self.words[zone])
+        Label::at(curve, time, heading, &self.texts[zone])
     }
 }
 
-/// The radius of the smallest circle that is tried. Points have room on it, and zones that join the same points; on boards with few points also labels
-/// between points next to each other.
+/// The radius of the smallest circle that is tried. Points have room on it, and zones that join the same points; on boards with few points labels do
+/// too, between points next to each other.
 fn smallest(board: &Board) -> f64 {
     let joins = |zone: &Zone, ends: (u8, u8)| zone.a != zone.b && [(zone.a, zone.b), (zone.b, zone.a)].contains(&ends);
     let same = |zone: &Zone| board.zones.iter().filter(|other| joins(other, (zone.a, zone.b))).count();
@@ -74,15 +78,15 @@ fn smallest(board: &Board) -> f64 {
     beside.max(5.0 * most as f64)
 }
 
-/// Lays out a board, on the first circle on which every label has room. While the print stays large, larger circles are tried too, and the one is taken
-/// on which the fewest labels lie on other zones. On the largest circle labels that have no room are laid where they lie on the fewest others.
-pub fn layout(board: &Board, words: &[Words]) -> Layout {
+/// Lays out a board, on the first circle on which every label has room. While the print stays large, larger circles are tried too, and the one is
+/// taken on which the fewest labels lie on other zones. On the largest circle labels without room are laid where they lie on the fewest others.
+pub fn layout(board: &Board, texts: &[Texts]) -> Layout {
     const LARGEST: f64 = 1_000.0;
-    // On A4 the print is then of some 9 points.
+    // So wide, a picture has a print of some 9 points on A4.
     const LARGE_PRINT: f64 = 1_050.0;
     let order = circle::order(board);
     let spots = vec![Spot::ZERO; order.len()];
-    let mut draft = Draft { board, words, order, radius: 0.0, spots };
+    let mut draft = Draft { board, texts, order, radius: 0.0, spots };
     let (mut radius, mut best): (f64, Option<(usize, Layout)>) = (smallest(board), None);
     loop {
         let last = radius >= LARGEST;

@@ -1,6 +1,6 @@
 //! The legend of a picture: what its signs mean, in lines below what is drawn.
 
-use crate::label::{arrow, text_width, Label, Words, SMALL};
+use crate::label::{arrow, text_width, Label, Texts, SMALL};
 use crate::markup::{corners, path, whole};
 use crate::plane::{Area, Curve, Spot};
 use crate::shapes::{carrier, point, text, HOME, POINT};
@@ -56,9 +56,9 @@ impl Legend {
     pub fn carrier(&mut self, blocked: bool) {
         let meaning = if blocked { "blocked carrier and its heading" } else { "carrier in its zone and its heading" };
         self.add(70.0, meaning, |from| {
-            let words = Words { number: String::new(), carrier: Some("7".to_string()), leaving: None };
-            let at = Label::at(Curve::aside(from, from + RIGHT * 70.0, Spot { x: 0.0, y: 0.0 }), 0.4, 0, &words);
-            line("held", from, 70.0) + &at.held.map(|held| carrier(&held, "7", blocked)).unwrap_or_default()
+            let texts = Texts { number: String::new(), carrier: Some("7".to_string()), leaving: None };
+            let at = Label::at(Curve::aside(from, from + RIGHT * 70.0, Spot::ZERO), 0.4, 0, &texts);
+            line("held", from, 70.0) + &at.carrier.map(|sign| carrier(&sign, "7", blocked)).unwrap_or_default()
         });
     }
 

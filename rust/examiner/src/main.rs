@@ -1,5 +1,5 @@
-//! The examiner's tool: `nizkabel board`, `key`, `draw`, `mark`, `page` and `replay`. It reads files, asks the proved library and shows what it says. What goes to
-//! standard output is made whole first and then written; whatever fails is said on standard error, and the status isn't 0.
+//! The examiner's tool: `nizkabel board`, `key`, `draw`, `mark`, `page` and `replay`. It reads files, asks the proved library and shows what it says.
+//! What goes to standard output is made whole first and then written; whatever fails is said on standard error, and the status isn't 0.
 
 mod commands;
 mod files;
@@ -40,7 +40,8 @@ nizkabel key BOARD                               the key: who goes home in which
 nizkabel draw BOARD [--key]                      a picture of the board (SVG), blocked carriers with eight corners; --key adds
                                                  the order of leaving
 nizkabel mark BOARD SHEETS.. [--csv]             the marks of candidates' sheets, with the place of each fault
-nizkabel page BOARD [SHEETS..]                   a page (HTML) with the picture, the key, each route drawn, and the marks
+nizkabel page BOARD [SHEETS..]                   a page (HTML): the picture, the zones, the key with each route drawn, the blocked
+                                                 carriers, the search count, and the marks
 nizkabel page --paper BOARD                      the candidate's paper (HTML): the picture and the rules, nothing of the key
 nizkabel replay BOARD LOG [--write] [--bytes | --hex]
                                                  where a log of single moves leads; --write gives that board

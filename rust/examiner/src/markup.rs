@@ -11,7 +11,6 @@ pub fn escaped(text: &str) -> String {
         '>' => "&gt;".to_string(),
         '"' => "&quot;".to_string(),
         '\'' => "&#39;".to_string(),
-        '\u{FFFE}' | '\u{FFFF}' => c.escape_unicode().to_string(),
         _ => c.to_string(),
     };
     shown(text).chars().map(escaped).collect()
@@ -38,7 +37,7 @@ pub fn path(curve: &Curve) -> String {
     format!("M{}C{} {} {}", at(*start), at(*first), at(*second), at(*end))
 }
 
-/// A box as the value of `viewBox`, whole units around it.
+/// A box as the value of `viewBox`, in whole units.
 pub fn view_box(area: Area) -> String {
     let size = area.size();
     format!("{} {} {}", at(area.low), whole(size.x), whole(size.y))

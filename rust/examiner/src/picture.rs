@@ -3,10 +3,10 @@
 
 use crate::board::{Board, Zone};
 use crate::html::heads_for;
-use crate::label::{Words, SMALL};
+use crate::label::{Texts, SMALL};
 use crate::layout::{layout, Layout};
 use crate::legend::Legend;
-use crate::markup::{path, view_box};
+use crate::markup::{path, view_box, whole};
 use crate::plane::{Area, Spot};
 use crate::shapes::{self, label, text, HOME, POINT, STYLE};
 use nizkabel::owned::Key;
@@ -48,20 +48,20 @@ pub fn ordinal(number: usize) -> String {
 pub struct Picture<'a> {
     board: &'a Board,
     told: Told<'a>,
-    words: Vec<Words>,
+    texts: Vec<Texts>,
     pub layout: Layout,
 }
 
 impl<'a> Picture<'a> {
     pub fn new(board: &'a Board, told: Told<'a>) -> Self {
-        let words = |(number, zone): (usize, &Zone)| {
+        let texts = |(number, zone): (usize, &Zone)| {
             let carrier = zone.held.map(|held| held.carrier);
             let leaving = carrier.and_then(|carrier| told.leaving(carrier));
-            Words { number: number.to_string(), carrier: carrier.map(|carrier| carrier.to_string()), leaving }
+            Texts { number: number.to_string(), carrier: carrier.map(|carrier| carrier.to_string()), leaving }
         };
-        let words: Vec<Words> = board.zones.iter().enumerate().map(words).collect();
-        let layout = layout(board, &words);
-        Picture { board, told, words, layout }
+        let texts: Vec<Texts> = board.zones.iter().enumerate().map(texts).collect();
+        let layout = layout(board, &texts);
+        Picture { board, told, texts, layout }
     }
 
     fn is_blocked(&self, zone: usize) -> bool {
@@ -82,7 +82,7 @@ impl<'a> Picture<'a> {
     }
 
     fn label(&self, zone: usize) -> String {
-        let label = label(&self.layout.labels[zone], &self.words[zone], self.is_blocked(zone));
+        let label = label(&self.layout.labels[zone], &self.texts[zone], self.is_blocked(zone));
         format!("<g data-zone=\"{zone}\">{label}</g>\n")
     }
 
@@ -99,7 +99,7 @@ impl<'a> Picture<'a> {
                 legend.carrier(blocked);
             }
         }
-        if self.words.iter().any(|words| words.leaving.is_some()) {
+        if self.texts.iter().any(|texts| texts.leaving.is_some()) {
             legend.leaving();
         }
         if zones.iter().any(|zone| zone.a == zone.b) {
@@ -119,12 +119,12 @@ impl<'a> Picture<'a> {
     fn element(&self, attributes: &str, style: &str, described: &str) -> String {
         const MARGIN: f64 = 12.0;
         let spots: String = self.layout.spots.iter().enumerate().map(|(number, &spot)| self.point(number, spot)).collect();
-        let labels: String = (0..self.words.len()).map(|zone| self.label(zone)).collect();
+        let labels: String = (0..self.texts.len()).map(|zone| self.label(zone)).collect();
         let picture = self.layout.area();
         let legend = self.legend(picture);
         let area = picture.with(legend.area()).wider(MARGIN);
         let size = in_millimetres(area);
-        let ground = format!("<rect x=\"{}\" y=\"{}\" width=\"100%\" height=\"100%\" fill=\"#fff\"/>", area.low.x.round(), area.low.y.round());
+        let ground = format!("<rect x=\"{}\" y=\"{}\" width=\"100%\" height=\"100%\" fill=\"#fff\"/>", whole(area.low.x), whole(area.low.y));
         let drawn = self.zones(false) + &self.zones(true) + &spots + &labels + &legend.drawn;
         format!(
             "<svg{attributes} class=\"board\" viewBox=\"{}\" {size} role=\"img\">\n<title>{}</title>\n{described}{style}{ground}\n{drawn}</svg>\n",

@@ -78,9 +78,15 @@ impl Area {
         Area { low: middle - half, high: middle + half }
     }
 
-    /// The least box that holds these spots.
-    pub fn of(spots: impl IntoIterator<Item = Spot>) -> Option<Area> {
-        spots.into_iter().map(|spot| Area { low: spot, high: spot }).reduce(Area::with)
+    /// The least box that holds three spots.
+    pub fn of(spots: [Spot; 3]) -> Area {
+        let [one, two, three] = spots.map(|spot| Area { low: spot, high: spot });
+        one.with(two).with(three)
+    }
+
+    /// Whether one of these boxes meets one of those.
+    pub fn any_meet(some: &[Area], others: &[Area]) -> bool {
+        some.iter().any(|area| others.iter().any(|other| area.meets(*other)))
     }
 
     pub fn with(self, other: Area) -> Area {
@@ -102,7 +108,7 @@ impl Area {
         (self.low + self.high) * 0.5
     }
 
-    fn holds(self, spot: Spot) -> bool {
+    pub fn holds(self, spot: Spot) -> bool {
         (self.low.x..=self.high.x).contains(&spot.x) && (self.low.y..=self.high.y).contains(&spot.y)
     }
 
@@ -175,18 +181,10 @@ impl Curve {
         ((b - a) * (left * left) + (c - b) * (2.0 * left * time) + (d - c) * (time * time)).unit()
     }
 
-    /// The first time after one, or before it, when it is out of a box, by hundredths; its end where it never is.
-    pub fn out_of(self, area: Area, from: f64, forward: bool) -> f64 {
-        let step = if forward { 0.01 } else { -0.01 };
-        let times = (1..=100).map(|n| (from + step * f64::from(n)).clamp(0.0, 1.0));
-        let inside = |time: &f64| area.holds(self.at(*time));
-        times.skip_while(inside).next().unwrap_or(if forward { 1.0 } else { 0.0 })
-    }
-
     pub fn traced(self) -> Traced {
         const LINES: u16 = 32;
         let spots: Vec<Spot> = (0..=LINES).map(|n| self.at(f64::from(n) / f64::from(LINES))).collect();
-        let area = Area::of(spots.iter().copied()).unwrap_or(Area { low: Spot::ZERO, high: Spot::ZERO });
+        let area = spots.iter().fold(Area { low: spots[0], high: spots[0] }, |area, &spot| area.with(Area { low: spot, high: spot }));
         Traced { spots, area }
     }
 }

@@ -4,7 +4,7 @@ use crate::board::Board;
 use crate::label::arrow;
 use crate::layout::Layout;
 use crate::markup::{corners, path, view_box, whole};
-use crate::plane::{Area, Curve};
+use crate::plane::{Area, Curve, Spot};
 use crate::shapes::point;
 
 /// The small pictures of a board.
@@ -12,7 +12,7 @@ pub struct Routes<'a> {
     board: &'a Board,
     layout: &'a Layout,
     area: Area,
-    /// A hundredth of a picture's width, or a little more: they are all shown in one size.
+    /// A hundredth of the track's longer side: the pictures are all shown in one size, so that lines and arrows are too.
     unit: f64,
 }
 
@@ -27,8 +27,11 @@ impl<'a> Routes<'a> {
     pub fn track(&self) -> String {
         let Routes { board, layout, unit, .. } = self;
         let zones: String = layout.curves.iter().map(path).collect();
-        let home = |number: usize| number == usize::from(board.home);
-        let points: String = layout.spots.iter().enumerate().map(|(number, &spot)| point(spot, if home(number) { 4.0 } else { 1.6 } * unit, home(number))).collect();
+        let mark = |(number, &spot): (usize, &Spot)| {
+            let home = number == usize::from(board.home);
+            point(spot, if home { 4.0 } else { 1.6 } * unit, home)
+        };
+        let points: String = layout.spots.iter().enumerate().map(mark).collect();
         let zones = format!("<path class=\"zone light\" stroke-width=\"{}\" d=\"{zones}\"/>", whole(0.5 * unit).max(1));
         format!("<svg width=\"0\" height=\"0\" aria-hidden=\"true\" class=\"shared\"><defs><g id=\"track\">{zones}{points}</g></defs></svg>\n")
     }

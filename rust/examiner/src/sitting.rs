@@ -2,7 +2,7 @@
 
 use crate::board::Board;
 use crate::fault::{meaning, At};
-use crate::html::{page, section, table, zone_rows};
+use crate::html::{page, section, table, zone_rows, zone_table};
 use crate::markup::escaped;
 use crate::marks::{counts, Marked, Outcome};
 use crate::picture::{ordinal, Picture, Told};
@@ -49,7 +49,7 @@ fn zones(board: &Board, key: &Key) -> String {
         let place = |carrier: u16| key.entries.iter().position(|entry| entry.carrier == carrier);
         row.push(zone.held.map_or(String::new(), |held| place(held.carrier).map_or("blocked".to_string(), |place| ordinal(place + 1))));
     }
-    table("zones", "The zones, each from its first end to its second", &["zone", "first end", "second end", "carrier", "heads", "leaves"], &rows)
+    zone_table(&["leaves"], rows)
 }
 
 fn routes(board: &Board, key: &Key, picture: &Picture) -> String {
@@ -63,7 +63,8 @@ fn routes(board: &Board, key: &Key, picture: &Picture) -> String {
         let held: Vec<usize> =
             (0..board.zones.len()).filter(|&zone| board.zones[zone].held.is_some_and(|held| !gone.contains(&held.carrier))).collect();
         let route: Vec<String> = entry.words.iter().map(|&word| word_shown(word)).collect();
-        vec![ordinal(place + 1), entry.carrier.to_string(), format!("<code>{}</code>", route.join(" ")), routes.picture(entry.carrier, &entry.words, &held)]
+        let route = format!("<code>{}</code>", route.join(" "));
+        vec![ordinal(place + 1), entry.carrier.to_string(), route, routes.picture(entry.carrier, &entry.words, &held)]
     };
     let rows: Vec<Vec<String>> = key.entries.iter().enumerate().map(row).collect();
     let told = "<p>In a route <code>3+</code> is zone 3 from its first end to its second, <code>3-</code> the other way. In the pictures the \
@@ -80,8 +81,8 @@ fn blocked(key: &Key) -> String {
 
 fn searched(key: &Key) -> String {
     format!(
-        "<p><strong>{}</strong>. It tells how hard the board is to search: over all tries of the key, the zones with a heading that the carrier \
-         can reach while the others stand still.</p>\n",
+        "<p><strong>{}</strong>. It tells how hard the board is to search: over all tries of the key, the count of zones with a heading that the \
+         carrier can reach while the others stand still.</p>\n",
         key.searched
     )
 }

@@ -112,10 +112,17 @@ pub fn numbers_cut(list: &[u16]) -> String {
 }
 
 /// A text from a file as it is shown on one line. Characters are escaped that could move a terminal's cursor, turn the order of those around them, or
-/// not be seen.
+/// not be seen, and those that no page may have.
 pub fn shown(text: &str) -> String {
-    let escaped = |c: char| c.is_control() || matches!(c, '\u{200B}'..='\u{200F}' | '\u{2028}'..='\u{202E}' | '\u{2060}'..='\u{2069}' | '\u{FEFF}');
-    text.chars().map(|c| if escaped(c) { c.escape_unicode().to_string() } else { c.to_string() }).collect()
+    text.chars().map(|c| if c.is_control() || is_hidden(c) { c.escape_unicode().to_string() } else { c.to_string() }).collect()
+}
+
+/// Marks of direction, joiners, fillers and tags without a shape of their own, and what is no character.
+fn is_hidden(c: char) -> bool {
+    let ordering = matches!(c, '\u{61C}' | '\u{200B}'..='\u{200F}' | '\u{2028}'..='\u{202E}' | '\u{2060}'..='\u{206F}' | '\u{FEFF}');
+    let joining = matches!(c, '\u{AD}' | '\u{34F}' | '\u{17B4}' | '\u{17B5}' | '\u{180B}'..='\u{180E}');
+    let filling = matches!(c, '\u{115F}' | '\u{1160}' | '\u{3164}' | '\u{FFA0}');
+    ordering || joining || filling || matches!(c, '\u{FFF0}'..='\u{FFFB}' | '\u{FFFE}' | '\u{FFFF}' | '\u{1D173}'..='\u{1D17A}' | '\u{E0000}'..='\u{E0FFF}')
 }
 
 /// Part of a text in quotes.

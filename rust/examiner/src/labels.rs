@@ -4,7 +4,8 @@ use crate::label::Label;
 use crate::layout::{Draft, GAP};
 use crate::plane::{Area, Curve, Traced};
 
-/// A place for a zone's label: its boxes, whether a point lies under one, how many other zones do, and how many steps it is from the middle.
+/// A place for a zone's label: its boxes with some room around them, whether a point lies under one, how many other zones do, where an arrow on the
+/// label's own text counts as one, and how many steps it is from the middle.
 struct Place {
     label: Label,
     areas: Vec<Area>,
@@ -27,18 +28,18 @@ pub struct Labels {
 }
 
 /// The places for the label of a zone, the best first.
-fn places(draft: &Draft, zone: usize, curves: &[Curve], traced: &[Traced], marks: &[Area]) -> Vec<Place> {
+fn places(draft: &Draft, zone: usize, curves: &[Curve], traced: &[Traced], signs: &[Area]) -> Vec<Place> {
     const STEPS: usize = 44;
     let place = |step: usize| {
         // The middle, then to either side of it in turn.
         let off = step.div_ceil(2) as f64 * if step % 2 == 0 { 0.02 } else { -0.02 };
         let label = draft.label(zone, curves[zone], 0.5 + off);
-        let areas: Vec<Area> = label.areas().into_iter().map(|area| area.wider(GAP)).collect();
+        let areas = label.areas_with(GAP);
         let all = label.area().wider(GAP);
         let on = |curve: &Traced| curve.area().wider(1.0).meets(all) && areas.iter().any(|&area| curve.meets(area));
         let crossed = traced.iter().enumerate().filter(|(other, curve)| *other != zone && on(curve)).count();
-        let on_point = marks.iter().any(|mark| areas.iter().any(|area| area.meets(*mark)));
-        Place { label, areas, on_point, crossed, steps: step.div_ceil(2) }
+        let (on_point, crowded) = (Area::any_meet(&areas, signs), label.is_crowded());
+        Place { label, areas, on_point, crossed: crossed + usize::from(crowded), steps: step.div_ceil(2) }
     };
     let mut places: Vec<Place> = (0..=STEPS).map(place).collect();
     places.sort_by_key(Place::cost);
@@ -50,7 +51,7 @@ fn chosen(turns: &[usize], places: &[Vec<Place>]) -> Result<Vec<usize>, usize> {
     let mut taken: Vec<Area> = Vec::new();
     let mut chosen = vec![0; places.len()];
     for &zone in turns {
-        let has_room = |place: &Place| !place.on_point && !taken.iter().any(|taken| place.areas.iter().any(|area| area.meets(*taken)));
+        let has_room = |place: &Place| !place.on_point && !Area::any_meet(&place.areas, &taken);
         chosen[zone] = places[zone].iter().position(has_room).ok_or(zone)?;
         taken.extend(places[zone][chosen[zone]].label.areas());
     }
@@ -74,8 +75,8 @@ fn chosen_whatever(turns: &[usize], places: &[Vec<Place>]) -> Vec<usize> {
 /// and one that was left without room is first at the next try.
 pub fn labels(draft: &Draft, curves: &[Curve], whatever: bool) -> Option<Labels> {
     const TRIES: usize = 40;
-    let (traced, marks): (Vec<Traced>, _) = (curves.iter().map(|curve| curve.traced()).collect(), draft.marks());
-    let places: Vec<Vec<Place>> = (0..curves.len()).map(|zone| places(draft, zone, curves, &traced, &marks)).collect();
+    let (traced, signs): (Vec<Traced>, _) = (curves.iter().map(|curve| curve.traced()).collect(), draft.signs());
+    let places: Vec<Vec<Place>> = (0..curves.len()).map(|zone| places(draft, zone, curves, &traced, &signs)).collect();
     let mut turns: Vec<usize> = (0..curves.len()).collect();
     turns.sort_by(|&a, &b| traced[a].length().total_cmp(&traced[b].length()));
     let mut found = None;

@@ -8,7 +8,7 @@ use crate::shapes::POINT;
 use std::cmp::Ordering;
 use std::collections::BTreeMap;
 
-/// The middles of zones that join the same points are at least so far from each other.
+/// The middles of zones that join the same points are at least so far from each other, if they don't run through other points then.
 const NEAREST: f64 = 15.0;
 
 /// The zones that join the same two points, by the points' places on the circle: the lower, the higher, and the zones' numbers.
@@ -166,7 +166,6 @@ impl<'a> Bundle<'a> {
         let straight = |apart: f64| -apart * self.gaps() / 2.0;
         let shifts = || (0..).map(|step| f64::from(step) * 4.0).take_while(|&shift| shift < self.draft.radius);
         let nearer = [1.0, 0.7, 0.4].map(|part| (apart * part).max(NEAREST));
-        // Nearer still where they would run through other points.
         let mut tried = nearer.into_iter().chain([10.0]).flat_map(|apart| shifts().map(move |shift| (apart, shift)));
         let (apart, shift) = tried.find(|&(apart, shift)| self.passes(&self.drawn(straight(apart) + shift, apart))).unwrap_or((apart, 0.0));
         let farther = [0.0, 0.5, 1.0, 1.5, 2.0].map(|part| self.drawn(straight(apart) + shift + part * (self.across + POINT), apart));

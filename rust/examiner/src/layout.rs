@@ -9,7 +9,7 @@ use crate::labels::{labels, Labels};
 use crate::plane::{Area, Curve, Spot};
 use crate::shapes::{HOME, POINT};
 
-/// At least so much is between a label and another one, a point or another zone.
+/// At least so much is between a label and another one or a point.
 pub const GAP: f64 = 3.0;
 
 pub struct Layout {

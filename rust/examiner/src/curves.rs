@@ -98,7 +98,7 @@ impl<'a> Bundle<'a> {
         (self.to - self.from).length()
     }
 
-    /// Turning loops fanned out, others straight, aside or fanned out: the first way on which the labels have room, or the first of all where none has.
+    /// Turning loops fanned out, others straight, aside or fanned out: the first way on which the labels have room, else the first of all.
     fn drawn_well(&self, taken: &[Area]) -> Vec<Curve> {
         let mut options = match self.kind {
             Kind::Loops => return self.fanned(taken).unwrap_or_else(|| self.fan(0.12, taken)),

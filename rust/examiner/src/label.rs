@@ -43,8 +43,8 @@ pub fn arrow(base: Spot, way: Spot, size: f64) -> [Spot; 3] {
 }
 
 impl Label {
-    /// The label at a time of its zone's curve. The arrow stands on the curve where the body ends, on the side of the heading; the texts stand above and
-    /// below the body where that is at its left or right, else beside it.
+    /// The label at a time of its zone's curve. The arrow stands on the curve where the body ends, on the side of the heading; the texts stand above
+    /// and below the body where that is at its left or right, else beside it.
     pub fn at(curve: Curve, time: f64, heading: u16, texts: &Texts) -> Label {
         let spot = curve.at(time);
         let number_width = text_width(&texts.number, SMALL) + 5.0;

@@ -57,5 +57,6 @@ pub fn label(label: &Label, texts: &Texts, blocked: bool) -> String {
     let number = text("number", label.number.middle(), SMALL, &texts.number);
     let (Some(sign), Some(said)) = (&label.carrier, &texts.carrier) else { return number };
     let leaving = sign.leaving.zip(texts.leaving.as_ref()).map(|(area, said)| text("leaving", area.middle(), SMALL, said));
-    number + &carrier(sign, said, blocked) + &leaving.unwrap_or_default()
+    // The texts' light edge would hide part of an arrow.
+    number + &leaving.unwrap_or_default() + &carrier(sign, said, blocked)
 }

@@ -4,7 +4,7 @@ use crate::board::Board;
 use crate::fault::{meaning, At};
 use crate::html::{page, section, table, zone_rows, zone_table};
 use crate::markup::escaped;
-use crate::marks::{counts, Marked, Outcome};
+use crate::marks::{counts, shared_names, Marked, Outcome};
 use crate::picture::{ordinal, Picture, Told};
 use crate::route::Routes;
 use crate::text::{numbers, word_shown};
@@ -30,7 +30,7 @@ pub fn sitting(name: &str, board: &Board, key: &Key, marks: &[Marked]) -> String
     let nav = format!("<nav aria-label=\"Parts of this page\">\n<ul>\n{links}</ul>\n</nav>\n");
     let foot = "<footer>\n<p>Verdict, key, search count and marks are the proved library&#39;s; this page shows them.</p>\n</footer>\n";
     let body = format!("{head}{nav}<main>\n{sections}</main>\n{foot}");
-    page(&format!("{name}: board, key and marks"), &body)
+    page(&format!("{name}: {}", if marks.is_empty() { "board and key" } else { "board, key and marks" }), &body)
 }
 
 fn summary(board: &Board, key: &Key) -> String {
@@ -82,14 +82,16 @@ fn blocked(key: &Key) -> String {
 fn searched(key: &Key) -> String {
     format!(
         "<p><strong>{}</strong>. It tells how hard the board is to search: over all tries of the key, the count of zones with a heading that the \
-         carrier can reach while the others stand still.</p>\n",
+         carrier can reach while the others stand still, the one where it stands among them and none past home.</p>\n",
         key.searched
     )
 }
 
 fn marked(marks: &[Marked]) -> String {
     let rows: Vec<Vec<String>> = marks.iter().map(mark_row).collect();
-    format!("<p>{}</p>\n", counts(marks).trim_end()) + &table("marks", "The candidates", &["name", "mark", "meaning", "place", "reason"], &rows)
+    let shared = shared_names(marks).into_iter().map(|(name, sheets)| format!("<p>{sheets} sheets have the name {}.</p>\n", escaped(&name)));
+    let table = table("marks", "The candidates", &["name", "mark", "meaning", "place", "reason"], &rows);
+    format!("<p>{}</p>\n{}{table}", counts(marks).trim_end(), shared.collect::<String>())
 }
 
 fn mark_row(marked: &Marked) -> Vec<String> {

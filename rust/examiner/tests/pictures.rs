@@ -182,6 +182,12 @@ fn the_paper_tells_nothing() {
     let said = page.text();
     assert!(said.contains("The rules") && said.contains("a gate takes in every arrival") && !said.contains("home 7"));
     assert!(read(&paper(&board("points 2 home 0\n0-1\n0-1"))).text().contains("No carrier is out"));
+    // More lines for the blocked where more are out.
+    let fills = |out: usize| {
+        let zones: String = (1..=out).map(|carrier| format!("0-1 {carrier}>\n")).collect();
+        read(&paper(&board(&format!("points 2 home 0\n{zones}")))).of_class("fill").len()
+    };
+    assert_eq!([fills(2), fills(15), fills(16), fills(96)], [2, 2, 3, 8]);
 }
 
 #[test]
@@ -218,6 +224,8 @@ fn the_marks_with_place_and_reason() {
     let heads: Vec<String> = page.of_class("marks")[0].named("thead")[0].named("th").iter().map(|head| head.text()).collect();
     assert_eq!(heads, ["name", "mark", "meaning", "place", "reason"]);
     assert!(page.text().contains("sheets 5, right 1, wrong 3 (31: 1, 32: 1, 34: 1), malformed 1"));
+    let twice = sat(&k, "f", "candidate <A>\nblocked none\ncandidate <A>\nblocked none\n");
+    assert!(read(&sitting("K", &k, &owned::key(k.bytes()).expect("a key"), &twice)).text().contains("2 sheets have the name <A>."));
     // Without sheets there are no marks, and every part that is linked is there.
     let page = read(&sitting("K.board", &k, &owned::key(k.bytes()).expect("a key"), &[]));
     assert!(page.of_class("marks").is_empty());
@@ -241,6 +249,7 @@ fn texts_from_files_are_escaped() {
         assert_eq!(mark_cells(&page)[0], [shown, "0", "right", "", ""]);
         assert_eq!(page.named("h1")[0].text(), format!("Board {shown}"));
         assert_eq!(page.named("head")[0].named("title")[0].text(), format!("{shown}: board, key and marks"));
+        assert!(!page.text().contains("sheets have the name"));
     }
     let marks = sat(&k, "<f>", "candidate A\nhome 7: <b>&0+ 1-\n");
     assert_eq!(mark_cells(&read(&sitting("K", &k, &key, &marks)))[0][4], "<f>:2: zone \"<b>&0\" is no number");

@@ -1,4 +1,6 @@
 // Sets of numbers below 64 as one 64-bit word, bit p for number p. They serve as sets of points, and as blocks of 64 words.
+#![tactic(auto)]
+
 ghost use Rattle.std.specs.Prelude.{◌≡◌, ◌-◌, ◌^◌, ◌≤◌, ◌<◌};
 ghost use Rattle.std.specs.Int.Bits.{bit_or};
 ghost use Rattle.model.specs.Lists.{numbers_below, how_many};

@@ -6,7 +6,7 @@ ghost use Rattle.model.specs.Reading.{wide};
 ghost use Rattle.board.specs.Inner.{ByteAt, ZoneIn, ZoneAt};
 
 // A zone as a board says it.
-#[derive(Drop)]
+#[derive(Clone, Copy)]
 pub struct Zone {
     pub a: usize,
     pub b: usize,

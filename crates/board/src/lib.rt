@@ -1,6 +1,8 @@
 // The board reader: from any bytes whatever, the number of the first refusal that holds, or 0 with the track and the first position that
 // they say. `read` has no `requires`; `read_into` asks for arrays of zeros, and fills them. The writer sizes its copy by `input::zone_from` and tests
 // it by `zones::refusal`.
+#![tactic(auto)]
+
 mod fill;
 mod head;
 pub mod input;
@@ -16,7 +18,7 @@ use model::Head;
 // The ends of zone z are ends[2 * z] and ends[2 * z + 1]. A zone's place in position is 0 where it
 // is free, else 2 × carrier + heading. Both arrays hold zeros past the last zone, and on a refusal
 // every number but the refusal's own is zero.
-#[derive(Drop)]
+#[derive(Clone, Copy)]
 pub struct Board {
     pub number: u32,
     pub head: Head,
@@ -25,7 +27,7 @@ pub struct Board {
 }
 
 // A board but for its arrays.
-#[derive(Drop)]
+#[derive(Clone, Copy)]
 pub struct ReadHead {
     pub number: u32,
     pub head: Head,

@@ -2,6 +2,8 @@
 // a name and the board's bytes in hexadecimal. For each it writes the name, a space and the number
 // that `read` gives; or, where the line ends in `=`, all that the board holds. Last it reads boards
 // longer than any that L can say.
+#![tactic(auto)]
+
 ghost use Rattle.std.specs.Prelude.{◌≡◌, ◌<◌, length};
 
 fn item(n: u64) {

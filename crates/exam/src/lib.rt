@@ -1,5 +1,7 @@
 // The operations on a board in bytes: the key, the collapse and the marker. They take any bytes and any room whatever, and say what they
 // give in every case.
+#![tactic(auto)]
+
 pub mod parsed;
 mod sheet;
 

@@ -10,7 +10,7 @@ use model::{Head, Summary};
 
 // What the key gives: the verdict, how many words are written to the plan and how many carriers to the list, and the search count; and what is
 // said of the board.
-#[derive(Drop)]
+#[derive(Clone, Copy)]
 pub struct KeyResult {
     pub verdict: u32,
     pub planned: usize,
@@ -86,7 +86,7 @@ pub fn key(
 }
 
 // What the collapse gives: its number, and how many carriers are written to the list.
-#[derive(Drop)]
+#[derive(Clone, Copy)]
 pub struct CollapseResult {
     pub number: u32,
     pub listed: usize,

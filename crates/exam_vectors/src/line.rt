@@ -5,7 +5,7 @@ use crate::say;
 
 // What was read of a line: the part that it is in (0 name, 1 operation, 2 numbers, 3 bytes), the operation's first letter, 0 before it is read,
 // and how many numbers and bytes there are so far.
-#[derive(Drop)]
+#[derive(Clone, Copy)]
 struct Line {
     part: u8,
     letter: u8,

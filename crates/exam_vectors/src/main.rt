@@ -3,6 +3,8 @@
 // for the list, for `mark` the sheet, for `replay` the words lent for the position sheet and then the log, for `write` the bytes lent for the copy and
 // then a carrier and a heading for each word of the position sheet. Each line is answered by the name, the operation and the number that it gives, and
 // but for `mark` by the lengths and counts in the result and all of what was lent: what is not written still holds 60000, or 99 in a copy.
+#![tactic(auto)]
+
 mod copy;
 mod line;
 mod say;

@@ -1,6 +1,8 @@
 // Reads a board from standard input and prints its key: what `text::key_text` gives for the bytes that were read, and nothing else.
 // A board has at most 486 bytes; of a longer input 487 are read, which tell that it is too long. A page that isn't written whole is said on
 // standard error.
+#![tactic(auto)]
+
 use libc::{STDIN_FILENO, STDOUT_FILENO};
 
 fn main() {

@@ -1,4 +1,6 @@
 // The marking of a sheet on a track and a position: the plan entry by entry, and a claim of blocked against the true list.
+#![tactic(auto)]
+
 mod out;
 mod route;
 

@@ -1,1 +1,2 @@
 // Theorems alone: a sheet is marked 0 exactly where it is right. See proofs/.
+#![tactic(auto)]

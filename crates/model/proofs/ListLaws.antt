@@ -95,7 +95,7 @@ module _ {A : Type 0} where
   cons_if_tail true a l m = Memᴰ.tail m
   cons_if_tail false a l m = m
 
-  pub keep_mem : (f : A → Bool) {l : List A} {x : A} → Memᴰ x l → f x ≡ true → Memᴰ x (keep f l)
+  pub keep_mem : (f : A → Bool) {x : A} {l : List A} → Memᴰ x l → f x ≡ true → Memᴰ x (keep f l)
   keep_mem f {x = x} (Memᴰ.head {x = a} {xs = l} q) e = cons_if_head (f a) a (keep f l) q (ap f (sym q) ∙ e)
   keep_mem f {x = x} (Memᴰ.tail {x = a} {xs = l} m) e = cons_if_tail (f a) a (keep f l) (keep_mem f m e)
 
@@ -139,7 +139,7 @@ module _ {A : Type 0} where
       go true q h ih = (a, Memᴰ.head refl, q)
       go false q h ih = let r = ih h in (r.0, Memᴰ.tail r.1, r.2)
 
-  pub true_any : (f : A → Bool) {l : List A} {x : A} → Memᴰ x l → f x ≡ true → any_of f l ≡ true
+  pub true_any : (f : A → Bool) {x : A} {l : List A} → Memᴰ x l → f x ≡ true → any_of f l ≡ true
   true_any f (Memᴰ.head {x = a} {xs = l} q) e = or_left (f a) (any_of f l) (ap f (sym q) ∙ e)
   true_any f (Memᴰ.tail {x = a} {xs = l} m) e = or_right (f a) (any_of f l) (true_any f m e)
 
@@ -153,7 +153,7 @@ module _ {A : Type 0} where
   pub false_any : (f : A → Bool) (l : List A) → ((x : A) → Memᴰ x l → f x ≡ false) → any_of f l ≡ false
   false_any f l h = not_true_false (any_of f l) (λ e. let r = any_true f l e in true≢false (sym r.2 ∙ h r.0 r.1))
 
-  pub all_true : (f : A → Bool) {l : List A} → all_of f l ≡ true → {x : A} → Memᴰ x l → f x ≡ true
+  pub all_true : (f : A → Bool) {x : A} {l : List A} → all_of f l ≡ true → Memᴰ x l → f x ≡ true
   all_true f e (Memᴰ.head {x = a} {xs = l} q) = ap f q ∙ and_left (f a) (all_of f l) e
   all_true f e (Memᴰ.tail {x = a} {xs = l} m) = all_true f (and_right (f a) (all_of f l) e) m
 
@@ -179,7 +179,7 @@ module _ {A : Type 0} where
       go true q h ih = let s : x ≡ a = cc in (Memᴰ.head s, ap f s ∙ q)
       go false q h ih = (Memᴰ.tail (ih h).0, (ih h).1)
 
-  pub first_none : (f : A → Bool) {l : List A} → first f l ≡ none → {x : A} → Memᴰ x l → f x ≡ false
+  pub first_none : (f : A → Bool) {x : A} {l : List A} → first f l ≡ none → Memᴰ x l → f x ≡ false
   first_none f e (Memᴰ.head {x = a} {xs = l} q) = ap f q ∙ go (f a) e
     where
       go : (t : Bool) → this_else t a (first f l) ≡ none → t ≡ false

@@ -19,7 +19,7 @@ use Rattle.model.proofs.AscendingLaws.{NoRepeats}
 -- places
 
 module _ {A : Type 0} where
-  pub mem_get_d : (d : A) {l : List A} {x : A} → Memᴰ x l → (i : ℕ) × (i < length l) × (get_or l i d ≡ x)
+  pub mem_get_d : (d : A) {x : A} {l : List A} → Memᴰ x l → (i : ℕ) × (i < length l) × (get_or l i d ≡ x)
   mem_get_d d (Memᴰ.head q) = (0, omega arith, sym q)
   mem_get_d d (Memᴰ.tail m) = let r = mem_get_d d m in (suc r.0, omega (arith, r.1), r.2)
 

@@ -1,4 +1,6 @@
 // One single move in code, on a track and a lent position: it is tested by the moving rules and done where they allow it.
+#![tactic(auto)]
+
 ghost use Rattle.std.specs.Prelude.{◌≡◌, ◌*◌, length};
 ghost use Rattle.model.specs.Track.{track_of};
 ghost use Rattle.model.specs.Accepted.{Ready};

@@ -1,6 +1,8 @@
 // The operations for programs in C, C++ and Rust, under C's calling convention; include/nizkabel.h declares them. A slice is a pointer and a
 // count of elements. The lengths and counts that an operation gives beside its number go to `out`. Each promise is the operation's own,
 // whole, with what `out` holds at exit in their place.
+#![tactic(auto)]
+
 ghost use Rattle.std.specs.Prelude.{get_or};
 ghost use Rattle.exam.specs.Operations.{KeyPromise, CollapsePromise, MarkPromise};
 ghost use Rattle.replay.specs.Operation.{ReplayPromise};

@@ -1,4 +1,6 @@
 // The lines that `key` prints, written into a lent buffer.
+#![tactic(auto)]
+
 mod blocked;
 mod first_lines;
 mod plan;

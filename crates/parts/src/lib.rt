@@ -1,5 +1,7 @@
 // The collapse of a position on sets of points: the parts over free zones, those with a loop, home's set after joining and merging,
 // and the carriers that the collapse leaves.
+#![tactic(auto)]
+
 ghost use Rattle.std.specs.Prelude.{◌≡◌, ◌^◌, ◌<◌, length, replicate};
 ghost use Rattle.model.specs.Track.{track_of};
 ghost use Rattle.model.specs.Accepted.{Bounded};
@@ -74,7 +76,7 @@ fn zones_in(counts: &[usize], part: u64) -> usize
 }
 
 // What going through the free parts gives: the points of those that hold a loop, and what is grown from after all of them.
-#[derive(Drop)]
+#[derive(Clone, Copy)]
 struct PartsGrown {
     looped: u64,
     after: GrownFrom,

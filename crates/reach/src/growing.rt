@@ -6,14 +6,14 @@ ghost use Rattle.std.specs.Int.Bits.{bit_or};
 ghost use Rattle.bits.specs.Sets.{has_bit, set_minus};
 
 // The set of the points grown from so far, and how many steps that took.
-#[derive(Drop)]
+#[derive(Clone, Copy)]
 pub struct GrownFrom {
     set: u64,
     steps: usize,
 }
 
 // What a step gives: where the ways of its point lead, and what is grown from after it.
-#[derive(Drop)]
+#[derive(Clone, Copy)]
 pub struct Stepped {
     pub leads: u64,
     pub after: GrownFrom,

@@ -1,4 +1,6 @@
 // Sets of points reached over ways: for each point the set of those that a way leads to.
+#![tactic(auto)]
+
 pub mod growing;
 
 ghost use Rattle.std.specs.Prelude.{◌≡◌, ◌+◌, ◌^◌, ◌<◌, length, get_or, set};
@@ -17,7 +19,7 @@ pub fn add_way(ways: &mut [u64], p: usize, q: usize)
 }
 
 // What a growing gives: the points found, and what is grown from after it.
-#[derive(Drop)]
+#[derive(Clone, Copy)]
 pub struct Growth {
     pub found: u64,
     pub after: GrownFrom,

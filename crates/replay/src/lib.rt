@@ -1,11 +1,13 @@
 // The replay of a move log on a board in bytes. It takes any bytes, any log and any sheet whatever, and says what it gives in every case.
+#![tactic(auto)]
+
 mod moves;
 mod parsed;
 
 ghost use Rattle.replay.specs.Operation.{ReplayPromise};
 
 // What a replay gives: its number, and how many moves were done.
-#[derive(Drop)]
+#[derive(Clone, Copy)]
 pub struct ReplayResult {
     pub number: u32,
     pub moves: usize,

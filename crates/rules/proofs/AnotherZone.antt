@@ -7,7 +7,7 @@ use native.Mathlib.Omega.{arith}
 use Rattle.model.specs.Track.{Track, zone_of, heading_of}
 use Rattle.model.specs.Position.{Position, at, Stands}
 use Rattle.rules.specs.Routes.{Onward, goes, route}
-use Rattle.rules.specs.Tries.{enters}
+use Rattle.rules.specs.Tries.{into, Allowed, enters}
 use Rattle.rules.specs.AnotherZone.{RoutesGoElsewhere, MovesGoElsewhere}
 
 onward_elsewhere : {t : Track} {p : Position} {c x : ℕ} (w v : ℕ) (us vs : List ℕ) → Onward t p c x (us ++ w ∷ v ∷ vs) → zone_of v ≡ zone_of w → ⊥
@@ -19,6 +19,9 @@ routes_go_elsewhere t p c w v [] vs (route s (goes r o)) = r.ungated.another
 routes_go_elsewhere t p c w v (u ∷ us) vs (route s o) = onward_elsewhere w v us vs o
 
 pub moves_go_elsewhere : MovesGoElsewhere
-moves_go_elsewhere t p q c u w s (enters x y elsewhere below free touches) e =
-    let held : 2 * c + heading_of u ≡ 0 = sym s.holds ∙ ap (at p) (sym e) ∙ free in
-    s.numbered (omega arith)
+moves_go_elsewhere t p q c u w s a e = go w q a e
+  where
+    go : (w : ℕ) (q : Position) → Allowed t p (into c w) q → zone_of w ≡ zone_of u → ⊥
+    go w q (enters x y elsewhere below free touches) e =
+        let held : 2 * c + heading_of u ≡ 0 = sym s.holds ∙ ap (at p) (sym e) ∙ free in
+        s.numbered (omega arith)

@@ -13,11 +13,11 @@ module _ {t : Track} {p : Position} where
   allowed_before (enters u s elsewhere below free touches) = enters u s tt below free touches
   allowed_before (arrives u s e) = arrives u s e
 
-  pub gate_shut : {q : Position} {c u w : ℕ} → Once p → Stands p c u → leave t u ≡ t.home → Allowed t p (into c w) q → ⊥
+  pub gate_shut : {c u w : ℕ} {q : Position} → Once p → Stands p c u → leave t u ≡ t.home → Allowed t p (into c w) q → ⊥
   gate_shut {c = c} {u} once s e (enters x y elsewhere below free touches) = elsewhere (ap (leave t) (once c x u y s) ∙ e)
 
-  pub gate_passed : {q : Position} {c u w : ℕ} → Once p → Stands p c u → LeavesElsewhere t u → UngatedAllowed t p (into c w) q → Allowed t p (into c w) q
+  pub gate_passed : {c u w : ℕ} {q : Position} → Once p → Stands p c u → LeavesElsewhere t u → UngatedAllowed t p (into c w) q → Allowed t p (into c w) q
   gate_passed {c = c} {u} once s n (enters x y any below free touches) = enters x y (λ e. n (ap (leave t) (once c u x s y) ∙ e)) below free touches
 
-  pub home_as_before : {q : Position} {c : ℕ} → UngatedAllowed t p (home c) q → Allowed t p (home c) q
+  pub home_as_before : {c : ℕ} {q : Position} → UngatedAllowed t p (home c) q → Allowed t p (home c) q
   home_as_before (arrives u s e) = arrives u s e

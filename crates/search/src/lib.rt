@@ -1,5 +1,7 @@
 // The key's search: while any carrier can go home, the lowest-numbered that can leaves next, by its least route. And how many words are reached
 // in all tries.
+#![tactic(auto)]
+
 ghost use Rattle.std.specs.Prelude.{◌≡◌, cond, ltb};
 ghost use Rattle.model.specs.Track.{track_of};
 ghost use Rattle.search.specs.Leaving.{Seeking, Sought};
@@ -11,14 +13,14 @@ use model::Head;
 const NOWHERE: usize = 192;
 
 // The zone of the carrier that can go, and the place in the queue of the last word of its route; or none can.
-#[derive(Drop)]
+#[derive(Clone, Copy)]
 pub enum Goes {
     From(usize, usize),
     Nobody,
 }
 
 // What a round gives: who goes, and how many words its tries reached in all.
-#[derive(Drop)]
+#[derive(Clone, Copy)]
 pub struct Outcome {
     pub goes: Goes,
     pub searched: u32,
@@ -107,7 +109,7 @@ fn first_to_go(
 }
 
 // What sending home gives: how many words of the plan are stored, and the search count.
-#[derive(Drop)]
+#[derive(Clone, Copy)]
 pub struct Sent {
     pub planned: usize,
     pub searched: u32,

@@ -1,4 +1,6 @@
 // The text that `key` prints for a board in bytes, written into what the caller lends.
+#![tactic(auto)]
+
 ghost use Rattle.std.specs.Prelude.{◌≤◌, ◌≡◌, length};
 ghost use Rattle.rules.specs.Key.{turns_back};
 ghost use Rattle.page.specs.Page.{page_of, LONGEST, PAGE};

@@ -1,4 +1,6 @@
 // Words in code: the same zone the other way, the point where a word leaves, and whether one may follow another.
+#![tactic(auto)]
+
 ghost use Rattle.std.specs.Prelude.{◌≡◌, ◌/◌, ◌<◌, length, get_or};
 ghost use Rattle.model.specs.Track.{rev};
 ghost use Rattle.rules.specs.Key.{may_follow};

@@ -1,5 +1,7 @@
 // The fair copy of a board: its track with a position sheet as its position, in bytes. It takes any bytes, any sheet and any room whatever, and says
 // what it gives in every case.
+#![tactic(auto)]
+
 mod draft;
 mod parsed;
 mod store;
@@ -7,7 +9,7 @@ mod store;
 ghost use Rattle.writer.specs.Operation.{WritePromise};
 
 // What a write gives: its number, and how many bytes were written.
-#[derive(Drop)]
+#[derive(Clone, Copy)]
 pub struct WriteResult {
     pub number: u32,
     pub count: usize,

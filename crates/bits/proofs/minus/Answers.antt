@@ -2,12 +2,8 @@
 -- The definition, unfolded, is what the code computes.
 use mathlib.Core.Path.{refl}
 use Rattle.bits.specs.Sets.{set_minus}
-use Rattle.bits.proofs.minus.Statement.{statement}
-use Rattle.bits.proofs.minus.Tie as tie
+use Rattle.bits.proofs.minus.Goals as goal
 
-returns : tie.Need-returns
+pub returns : goal.returns
 unfolding set_minus
 returns c = refl
-
-pub minus-spec : {M : Type 1} → statement M
-minus-spec = tie.close (tie.spec returns)

@@ -1,17 +1,9 @@
 -- `bits::with` meets its contract: the number's bit is put into the set.
 -- The shifted 1 is a power of two that fits, for p is below 64 (`shifted_one` of BitLaws).
 use mathlib.Core.Path.{ap}
-use borrow.Author.Rules.{rules}
 use lib.Bits.{bit_or}
 use Rattle.bits.proofs.BitLaws.{shifted_one}
-use Rattle.bits.proofs.with.Statement.{statement}
-use Rattle.bits.proofs.with.Tie as tie
+use Rattle.bits.proofs.with.Goals as goal
 
-shl-result : tie.Need-overflow-shl-result
-shl-result c = search rules
-
-returns : tie.Need-returns
+pub returns : goal.returns
 returns c = ap (bit_or c.args.s) (shifted_one c.args.p c.requires)
-
-pub with-spec : {M : Type 1} → statement M
-with-spec = tie.close (tie.spec shl-result returns)

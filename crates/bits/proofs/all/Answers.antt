@@ -3,10 +3,8 @@
 use Prim.Native.Nat.{ℕ, ◌+◌, ◌-◌, ◌*◌, ◌/◌, ◌^◌, ◌≤◌}
 use mathlib.Core.Path.{◌≡◌, sym, ap, ◌∙◌}
 use native.Mathlib.Omega.{arith}
-use borrow.Author.Rules.{rules}
 use lib.Pow.{ones_split, ones_lt, high}
-use Rattle.bits.proofs.all.Statement.{statement}
-use Rattle.bits.proofs.all.Tie as tie
+use Rattle.bits.proofs.all.Goals as goal
 
 high_cut : (n : ℕ) → n ≤ 64 → (2 ^ 64 - 1) / 2 ^ (64 - n) ≡ 2 ^ n - 1
 high_cut n h =
@@ -15,14 +13,5 @@ high_cut n h =
     let whole : 2 ^ 64 - 1 ≡ (2 ^ n - 1) * 2 ^ k + (2 ^ k - 1) = ap (λ (m : ℕ). 2 ^ m - 1) (sym sum) ∙ ones_split n k in
     ap (λ (m : ℕ). m / 2 ^ k) whole ∙ high (2 ^ n - 1) k (ones_lt k)
 
-sub-result : tie.Need-overflow-sub-result
-sub-result c = search rules
-
-shr-result : tie.Need-overflow-shr-result
-shr-result c = search rules
-
-returns : tie.Need-returns
+pub returns : goal.returns
 returns c = high_cut c.args.n c.requires.1
-
-pub all-spec : {M : Type 1} → statement M
-all-spec = tie.close (tie.spec sub-result shr-result returns)

@@ -3,14 +3,10 @@
 use native.Mathlib.Omega.{arith}
 use lib.Count.{trailing_le}
 use Rattle.bits.proofs.LowestLaws.{trailing_lowest}
-use Rattle.bits.proofs.lowest.Statement.{statement}
-use Rattle.bits.proofs.lowest.Tie as tie
+use Rattle.bits.proofs.lowest.Goals as goal
 
-cast-result : tie.Need-overflow-cast-result
-cast-result c = omega (arith, trailing_le 64 c.args.s)
+pub overflow_cast-result : goal.overflow_cast-result
+overflow_cast-result c = omega (arith, trailing_le 64 c.args.s)
 
-returns : tie.Need-returns
+pub returns : goal.returns
 returns c = trailing_lowest c.args.s c.requires c.ranges.s.fits
-
-pub lowest-spec : {M : Type 1} → statement M
-lowest-spec = tie.close (tie.spec cast-result returns)

@@ -1,0 +1,11 @@
+-- `byte` gives what the definition reads: a byte of the slice, which is below 256.
+-- The index is in the slice.
+use native.Mathlib.Omega.{arith}
+use borrow.Author.Rules.{rules}
+use Rattle.board.proofs.input.byte.Goals as goal
+
+pub overflow_cast-result : goal.overflow_cast-result
+overflow_cast-result c = omega (arith, c.shared_slice_known-1.given c.args.i)
+
+pub returns : goal.returns
+returns c = record { is = search rules; small = (c.shared_slice_known-1.given c.args.i).fits }

@@ -1,0 +1,73 @@
+-- `refusal` is rows 6 and 7: the first of them that holds.
+-- The invariant: no zone before z is bad, the table has the low bytes of their carriers, and it is known whether one of them stood before.
+use Prim.Native.Nat.{◌-◌}
+use mathlib.Core.Logic.{⊎_elim}
+use mathlib.Core.Path.{refl, sym, ◌∙◌}
+use native.Mathlib.Omega.{arith}
+use Rattle.model.specs.Reading.{bad_zone}
+use Rattle.board.specs.Inner.{ZoneIn}
+use Rattle.board.proofs.Turns.{none_first, none_next, met, none_met, all_met}
+use Rattle.board.proofs.ZoneBytes.{zone_in}
+use Rattle.board.proofs.Repeats.{seen_first, seen_next, new_carrier, repeated_free, repeated_new, repeated_met, again_none, again_met}
+use Rattle.board.proofs.Order.{row_6, row_7, neither_6_7}
+use Rattle.board.proofs.zones.refusal.Goals.{In-loop-z}
+use Rattle.board.proofs.zones.refusal.Goals as goal
+use Rattle.board.proofs.zones.refusal.Goals.{then-carrier-ne0+then-seen-low+then-stood_before, then-carrier-ne0+then-seen-low+else-stood_before, else-carrier-ne0, else-carrier-ne0-via-then-carrier-ne0+else-seen-low, else-carrier-ne0-via-else-carrier-ne0}
+
+-- the loop has come to one of the zones
+come_to : (c : In-loop-z) → ZoneIn c.args.bytes.now c.is_wide-wide.result c.loop-z.z
+come_to c = zone_in c.requires c.is_wide-wide.ensures c.byte-zones.ensures c.loop-z-test.true
+
+pub byte-zones-requires : goal.byte-zones-requires
+byte-zones-requires c = omega (arith, c.requires)
+
+pub is_wide-wide-requires : goal.is_wide-wide-requires
+is_wide-wide-requires c = omega (arith, c.requires)
+
+pub loop-z-init : goal.loop-z-init
+loop-z-init c = (none_first _ _, seen_first _, refl)
+
+pub bad-requires : goal.bad-requires
+bad-requires c = come_to (goal.at.bad-requires c).In-loop-z
+
+pub returns-then-bad : goal.returns-then-bad
+returns-then-bad c = row_6 _ (met (bad_zone _) c.byte-zones.ensures c.loop-z-test.true (sym c.bad.ensures ∙ c.if-bad.true))
+
+pub zone_at-said-requires : goal.zone_at-said-requires
+zone_at-said-requires c = come_to (goal.at.zone_at-said-requires c).In-loop-z
+
+pub stood_before-requires : goal.stood_before-requires
+stood_before-requires c = come_to (goal.at.stood_before-requires c).In-loop-z
+
+pub overflow_add-z : goal.overflow_add-z
+overflow_add-z c = omega (arith, c.byte-zones.ensures.small, c.loop-z-test.true)
+
+pub loop-z-preserved : goal.loop-z-preserved
+loop-z-preserved c =
+    let zone = c.zone_at-said.ensures in
+    let inv = c.loop-z.invariant in (
+      none_next (bad_zone _) inv.0 c.loop-z-test.true (sym c.bad.ensures ∙ c.if-bad.false),
+      seen_next inv.1 zone,
+      elim c.if-carrier-ne0.branch [
+        then-carrier-ne0+then-seen-low+then-stood_before w ↦ w.repeated-is ∙ again_met _ _ (repeated_met zone w.if-carrier-ne0.true (sym w.if-stood_before.true ∙ w.stood_before.ensures))
+      | then-carrier-ne0+then-seen-low+else-stood_before w ↦ w.repeated-is ∙ again_none _ _ inv.2 (repeated_new zone (sym w.if-stood_before.false ∙ w.stood_before.ensures))
+      | else-carrier-ne0 w ↦ w.repeated-is ∙ again_none _ _ inv.2 (elim w.else-carrier-ne0.branch [
+            else-carrier-ne0-via-then-carrier-ne0+else-seen-low v ↦ repeated_new zone (new_carrier inv.1 zone v.if-seen-low.false)
+          | else-carrier-ne0-via-else-carrier-ne0 v ↦ repeated_free zone v.if-carrier-ne0.false
+          ])
+      ],
+    )
+
+pub returns-then-repeated : goal.returns-then-repeated
+returns-then-repeated c =
+    let zones = c.byte-zones.ensures in
+    let inv = c.loop-z.invariant in
+    let all = c.loop-z-test.false in
+    row_7 _ (none_met (bad_zone _) zones inv.0 all) (sym c.if-repeated.true ∙ all_met _ zones inv.0.within all inv.2)
+
+pub returns : goal.returns
+returns c =
+    let zones = c.byte-zones.ensures in
+    let inv = c.loop-z.invariant in
+    let all = c.loop-z-test.false in
+    neither_6_7 _ (none_met (bad_zone _) zones inv.0 all) (sym c.if-repeated.false ∙ all_met _ zones inv.0.within all inv.2)

@@ -32,6 +32,7 @@ less_trans (last e l) (earlier k) = earlier (same_less e k)
 less_trans (last e l) (last d m) = last (e ∙ d) (lt_trans l m)
 
 pub less_irrefl : (p : List ℕ) → Less p p → ⊥
+less_irrefl [] x' = elim x' [ ]
 less_irrefl (x ∷ p) (earlier h) = less_irrefl p h
 less_irrefl (x ∷ p) (last e l) = omega arith
 

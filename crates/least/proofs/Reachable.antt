@@ -32,8 +32,8 @@ module _ (nexts : ℕ → List ℕ) where
   Leads w v = (us : List ℕ) × Way nexts (eqb v) w us
 
   -- and on to a next word of v
-  leads_on : {w v x : ℕ} {us : List ℕ} → Way nexts (eqb v) w us → Memᴰ x (nexts v) → Leads w x
-  leads_on {w} {v} {x} (ends e) m = (x ∷ [], goes (subst (λ (y : ℕ). Memᴰ x (nexts y)) (eqb-true v w e) m) (ends (eq-eqb x x refl)))
+  leads_on : {v w x : ℕ} {us : List ℕ} → Way nexts (eqb v) w us → Memᴰ x (nexts v) → Leads w x
+  leads_on {v} {w} {x} (ends e) m = (x ∷ [], goes (subst (λ (y : ℕ). Memᴰ x (nexts y)) (eqb-true v w e) m) (ends (eq-eqb x x refl)))
   leads_on (goes {v = u} h r) m = let (vs, y) = leads_on r m in (u ∷ vs, goes h y)
 
   module _ (n : ℕ) where
@@ -107,8 +107,8 @@ module _ (nexts : ℕ → List ℕ) where
               let (vs, f, y) = back_way nexts (eqb v) n w x.tree s h (ends (eq-eqb v (word_at q j) (sym e))) in
               (vs, y)
 
-          leads_in_queue : {u v : ℕ} {us : List ℕ} → Way nexts (eqb v) u us → (k : ℕ) → k < size q → word_at q k ≡ u → Memᴰ v q.words
-          leads_in_queue {u} {v} (ends e) k h f = subst (λ (y : ℕ). Memᴰ y q.words) (f ∙ sym (eqb-true v u e)) (get_d_mem 0 q.words k h)
+          leads_in_queue : {v u : ℕ} {us : List ℕ} → Way nexts (eqb v) u us → (k : ℕ) → k < size q → word_at q k ≡ u → Memᴰ v q.words
+          leads_in_queue {v} {u} (ends e) k h f = subst (λ (y : ℕ). Memᴰ y q.words) (f ∙ sym (eqb-true v u e)) (get_d_mem 0 q.words k h)
           leads_in_queue (goes {v = y} m r) k h f =
               let there : Has k y q = x.closed k (omega arith) y (subst (λ (z : ℕ). Memᴰ y (nexts z)) (sym f) m) in
               leads_in_queue r there.place there.inside there.word

@@ -37,9 +37,9 @@ module _ (t : Track) (passes : ℕ → Bool) where
   linked_of_walk (go w h e s a k) = over w h e s (linked_of_walk k)
 
   -- a word before a walk: where the walk begins with the same zone the two words cancel, or one is enough
-  before : {p q : ℕ} {ws : List ℕ} (w : ℕ) → w < 2 * t.zones → passes (zone_of w) ≡ true → start t w ≡ p → Walk t passes (leave t w) ws q → (vs : List ℕ) × Walk t passes p vs q
+  before : {p : ℕ} (w : ℕ) {q : ℕ} {ws : List ℕ} → w < 2 * t.zones → passes (zone_of w) ≡ true → start t w ≡ p → Walk t passes (leave t w) ws q → (vs : List ℕ) × Walk t passes p vs q
   before w h e s stay = (w ∷ [], go w h e s tt stay)
-  before {p} {q} w h e s (go u {ws = vs} i d r a k) = pick (eqb (zone_of u) (zone_of w)) refl
+  before {p} w {q} h e s (go u {ws = vs} i d r a k) = pick (eqb (zone_of u) (zone_of w)) refl
     where
       again : (u ≡ w) ⊎ (u ≡ rev w) → (xs : List ℕ) × Walk t passes p xs q
       again (inl c) = (u ∷ vs, go {p = p} u i d (ap (start t) c ∙ s) a k)

@@ -51,7 +51,7 @@ move_exists {t} {p} laid m = go (after_move t p m) refl
 
 pub moves_exist : {t : Track} {p : Position} → Laid t p → (ms : List Move) → (q : Position) × Moves t p ms q
 moves_exist {p = p} laid [] = (p, Moves.unmoved)
-moves_exist laid (m ∷ ms) =
+moves_exist {p = p} laid (m ∷ ms) =
     let y = move_exists laid m in
-    let r = moves_exist (moved_keeps_laid laid y.1) ms in
+    let r = moves_exist {p = y.0} (moved_keeps_laid laid y.1) ms in
     (r.0, Moves.more y.1 r.1)

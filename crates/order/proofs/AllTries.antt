@@ -20,7 +20,7 @@ module _ {t : Track} where
       go (inl g) = (retire c p, went g)
       go (inr n) = (p, refused n)
 
-  pub try_one : {p q r : Position} {c : ℕ} → Try t p c q → Try t p c r → q ≡ r
+  pub try_one : {p : Position} {c : ℕ} {q r : Position} → Try t p c q → Try t p c r → q ≡ r
   try_one (went g) (went h) = refl
   try_one (went g) (refused n) = absurd (n g)
   try_one (refused n) (went g) = absurd (n g)
@@ -30,7 +30,7 @@ module _ {t : Track} where
   tries_exist {p} laid [] = (p, Tries.untried)
   tries_exist {p} laid (c ∷ cs) =
       let y = try_exists laid c in
-      let r = tries_exist (laid_within (within_try y.1) laid) cs in
+      let r = tries_exist {p = y.0} (laid_within (within_try y.1) laid) cs in
       (r.0, Tries.more y.1 r.1)
 
   pub tries_one : {p q r : Position} {cs : List ℕ} → Tries t p cs q → Tries t p cs r → q ≡ r

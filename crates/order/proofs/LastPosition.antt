@@ -18,7 +18,7 @@ goer_numbered (route s o) = s.numbered
 pub goer_out : {t : Track} {p : Position} {c : ℕ} {r : List ℕ} → Route t p c r → Out p c
 goer_out (route {w = w} s o) = (w, s)
 
-pub within_try : {t : Track} {p q : Position} {c : ℕ} → Try t p c q → Within q p
+pub within_try : {t : Track} {p : Position} {c : ℕ} {q : Position} → Try t p c q → Within q p
 within_try {p = p} {c = c} (went g) = within_retired c p
 within_try {p = p} (refused n) = within_self p
 
@@ -40,7 +40,7 @@ module _ {t : Track} {last : Position} (ended : NoneCanGo t last) where
   pub goer_not_left : {p : Position} {c : ℕ} {r : List ℕ} → Once p → Within last p → Route t p c r → Out last c → ⊥
   goer_not_left {c = c} {r} once a g out = ended c (r, route_within once a out g)
 
-  stays_try : {p q : Position} {c : ℕ} → Once p → Within last p → Try t p c q → Within last q
+  stays_try : {p : Position} {c : ℕ} {q : Position} → Once p → Within last p → Try t p c q → Within last q
   stays_try {c = c} once a (went (r, g)) = within_retire c a (goer_numbered g) (goer_not_left once a g)
   stays_try once a (refused n) = a
 

@@ -2,7 +2,7 @@
 -- A route after its first word is a way over `nexts` to a word that leaves at home; the laws of least ways are crate least's.
 use Prim.Native.Nat.{ℕ, suc, ◌*◌, ◌≤◌, ◌<◌, suc-le-suc}
 use mathlib.Core.Path.{◌≡◌, refl, sym, ap, ◌∙◌}
-use mathlib.Core.List.{List, ◌∷◌}
+use mathlib.Core.List.{List, ◌∷◌, head-eq_of_cons-eq, tail-eq_of_cons-eq}
 use mathlib.Core.Bool.{Bool, true, false}
 use mathlib.Core.Logic.{◌⊎◌, inl, inr, ◌↔◌}
 use mathlib.Core.Option.{Option, none, some}
@@ -99,11 +99,14 @@ module _ {t : Track} {p : Position} {c : ℕ} (once : Once p) (numbered : c ≡ 
       smallest s (route st o) l = least_first t once st e o l
 
 -- which of two lists comes first at the first difference is not both ways
+before_apart : {r s a b : List ℕ} → Before r s → Before a b → s ≡ a → r ≡ b → ⊥
+before_apart (differs x) (differs y) e f = let h = head-eq_of_cons-eq e in let i = head-eq_of_cons-eq f in omega arith
+before_apart (differs x) (later y) e f = let h = head-eq_of_cons-eq e in let i = head-eq_of_cons-eq f in omega arith
+before_apart (later x) (differs y) e f = let h = head-eq_of_cons-eq e in let i = head-eq_of_cons-eq f in omega arith
+before_apart (later x) (later y) e f = before_apart x y (tail-eq_of_cons-eq e) (tail-eq_of_cons-eq f)
+
 pub before_once : {r s : List ℕ} → Before r s → Before s r → ⊥
-before_once (differs a) (differs b) = omega arith
-before_once (differs a) (later b) = omega arith
-before_once (later a) (differs b) = omega arith
-before_once (later a) (later b) = before_once a b
+before_once x y = before_apart x y refl refl
 
 -- no route is as long as the least and smaller at the first difference
 pub least_none_smaller : {t : Track} {p : Position} {c : ℕ} {r s : List ℕ} → Least t p c r → Route t p c s → length s ≡ length r → Before s r → ⊥

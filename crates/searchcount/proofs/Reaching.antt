@@ -24,9 +24,9 @@ module _ {t : Track} {p : Position} {c : ℕ} where
   reaches_leads {w} there = ([], ends (eq-eqb w w refl))
   reaches_leads {w} (steps_on {u = u} s r) = let (us, y) = reaches_leads r in (u ∷ us, goes (step_nexts t p c w u s) y)
 
-  way_reaches : {w v : ℕ} {us : List ℕ} → Way (nexts t p c) (eqb v) w us → Reaches t p c w v
-  way_reaches {w} {v} (ends e) = subst (Reaches t p c w) (sym (eqb-true v w e)) there
-  way_reaches {w} (goes {v = u} m y) = steps_on (nexts_step t p c w u m) (way_reaches y)
+  way_reaches : {v w : ℕ} {us : List ℕ} → Way (nexts t p c) (eqb v) w us → Reaches t p c w v
+  way_reaches {v} {w} (ends e) = subst (Reaches t p c w) (sym (eqb-true v w e)) there
+  way_reaches {w = w} (goes {v = u} m y) = steps_on (nexts_step t p c w u m) (way_reaches y)
 
 -- the search starts at the standing
 pub reached_at : (t : Track) {p : Position} {c w : ℕ} → Once p → Stands p c w → reached t p c ≡ found_from (nexts t p c) (2 * t.zones) w

@@ -22,7 +22,7 @@ module _ {t : Track} {p : Position} (laid : Laid t p) {H : ℕ → Type 0} (clos
   abbrev AllStill : Position → Type 0
   AllStill q = (d w : ℕ) → Stands p d w → (H (leave t w) → ⊥) → Stands q d w
 
-  still_try : {q r : Position} {c : ℕ} → Within q p → AllStill q → Try t q c r → AllStill r
+  still_try : {q : Position} {c : ℕ} {r : Position} → Within q p → AllStill q → Try t q c r → AllStill r
   still_try {c = c} within still (went can) d w s out =
       retire_stands c (still d w s out) (λ e. left_stays laid closed within still d w s out (subst (CanGo t _) e can))
   still_try within still (refused cannot) d w s out = still d w s out

@@ -36,5 +36,6 @@ module _ {t : Track} where
   stops_one {r = r} (later a c) (later {ms = ms} {n = n} b d) = let e = stops_one c (from_one (λ x. StopsAfter t x ms n r) a b d) in (ap suc e.0, e.1)
 
   pub carried_or_stops : {p q r : Position} {ms : List Move} {n : ℕ} → CarriedOut t p ms r → StopsAfter t p ms n q → ⊥
+  carried_or_stops none_left x = elim x [ ]
   carried_or_stops (next a c) (here f) = f _ a
   carried_or_stops {q = q} (next a c) (later {ms = ms} {n = n} b s) = carried_or_stops c (from_one (λ x. StopsAfter t x ms n q) a b s)

@@ -98,13 +98,14 @@ module _ {t : Track} {p : Position} {c : ℕ} (once : Once p) (numbered : c ≡ 
       smallest : (s : List ℕ) → Route t p c s → length s ≡ length r → (r ≡ s) ⊎ Before r s
       smallest s (route st o) l = least_first t once st e o l
 
--- which of two lists comes first at the first difference is not both ways
+-- of lists that are equal crosswise, for the induction
 before_apart : {r s a b : List ℕ} → Before r s → Before a b → s ≡ a → r ≡ b → ⊥
 before_apart (differs x) (differs y) e f = let h = head-eq_of_cons-eq e in let i = head-eq_of_cons-eq f in omega arith
 before_apart (differs x) (later y) e f = let h = head-eq_of_cons-eq e in let i = head-eq_of_cons-eq f in omega arith
 before_apart (later x) (differs y) e f = let h = head-eq_of_cons-eq e in let i = head-eq_of_cons-eq f in omega arith
 before_apart (later x) (later y) e f = before_apart x y (tail-eq_of_cons-eq e) (tail-eq_of_cons-eq f)
 
+-- which of two lists comes first at the first difference is not both ways
 pub before_once : {r s : List ℕ} → Before r s → Before s r → ⊥
 before_once x y = before_apart x y refl refl
 

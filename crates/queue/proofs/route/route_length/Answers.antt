@@ -1,0 +1,16 @@
+-- `route_length` gives the count of words that lead from place 0 to the place asked for.
+-- The invariant: n - 1 words were passed, and the route is what leads to place j with them after it. The measure is j, which falls.
+use Rattle.queue.proofs.Routing.{counting_starts, counting_more, counting_done}
+use Rattle.queue.proofs.route.route_length.Goals as goal
+
+pub loop-j-init : goal.loop-j-init
+loop-j-init c = counting_starts _ _
+
+pub loop-j-smaller : goal.loop-j-smaller
+loop-j-smaller c = c.requires.falls c.loop-j.j c.loop-j-test.true c.loop-j.invariant.back.low
+
+pub loop-j-preserved : goal.loop-j-preserved
+loop-j-preserved c = counting_more c.requires c.loop-j.invariant c.loop-j-test.true
+
+pub returns : goal.returns
+returns c = counting_done c.requires c.loop-j.invariant c.loop-j-test.false

@@ -124,6 +124,5 @@ module _ (t : Track) (p : Position) where
           record { number_is = rw a; count_is = rw a counted; copy_is = rw a stored }
 
 -- what is copied whole stands from the first place on
-pub copied_whole : (copy : List ℕ) {from whole copy' : List ℕ} → from ≡ whole → copy' ≡ take (length from) from ++ drop (length from) copy → copy' ≡ overwritten whole copy
-copied_whole copy {whole = whole} same stored =
-    stored ∙ (λ i. take (length (same i)) (same i) ++ drop (length (same i)) copy) ∙ ap (λ (l : List ℕ). l ++ drop (length whole) copy) (take-length whole)
+pub copied_whole : (copy : List ℕ) {from whole copy' : List ℕ} → from ≡ whole → copy' ≡ overwritten from copy → copy' ≡ overwritten whole copy
+copied_whole copy same stored = stored ∙ ap (λ (l : List ℕ). overwritten l copy) same

@@ -6,6 +6,7 @@ ghost use Rattle.model.specs.Track.{track_of};
 ghost use Rattle.faircopy.specs.BoardBytes.{head_bytes, entry_bytes, board_bytes};
 ghost use Rattle.writer.specs.Drafting.{SmallHead, Draftable, all_entries};
 
+use crate::overwrite;
 use board::input::zone_from;
 use model::Head;
 
@@ -32,7 +33,7 @@ fn first_bytes(head: Head, wide: bool, draft: &mut [u8])
         head.home as u8,
         head.zones as u8,
     ];
-    bytes::copy(&first, draft);
+    overwrite::from_start(&first, draft);
 }
 
 // The entry of one zone. In version 1 a carrier has its low byte alone.

@@ -3,6 +3,7 @@
 #![tactic(auto)]
 
 mod draft;
+mod overwrite;
 mod parsed;
 mod store;
 

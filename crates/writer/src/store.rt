@@ -5,7 +5,7 @@ ghost use Rattle.faircopy.specs.Write.{write_tested};
 ghost use Rattle.writer.specs.Given.{WriteGiven};
 ghost use Rattle.writer.specs.Drafting.{Storable};
 
-use crate::{WriteResult, draft};
+use crate::{WriteResult, draft, overwrite};
 use board::input::zone_from;
 use model::Head;
 
@@ -30,7 +30,7 @@ pub fn test_and_store(
             count: 0,
         };
     }
-    bytes::copy(&draft[..count], copy);
+    overwrite::from_start(&draft[..count], copy);
     WriteResult {
         number: 0,
         count: count,

@@ -2,6 +2,7 @@
 -- Both lists are ascending and have the same members: the carriers that leave at a point outside home's set.
 use Prim.Native.Nat.{ℕ}
 use mathlib.Core.List.{Memᴰ}
+use mathlib.Core.Path.{◌≡◌}
 use Rattle.model.specs.Track.{Track, leave}
 use Rattle.model.specs.Position.{Position, Stands, Out}
 use Rattle.model.specs.Accepted.{Laid}
@@ -25,5 +26,9 @@ module _ {t : Track} {p : Position} (laid : Laid t p) where
       let out : Out p c = named_out t p laid m in
       left_mem laid c out.0 out.1 (named_outside laid (home_class laid) c out.0 m out.1)
 
-pub collapse_same : CollapseSame
-collapse_same t p laid = ascending_unique (left t p) (named t p) (left_ascending laid) (named_ascending t p laid) (left_named laid) (named_left laid)
+  pub collapse_same : left t p ≡ named t p
+  collapse_same = ascending_unique (left t p) (named t p) (left_ascending laid) (named_ascending t p laid) left_named named_left
+
+-- of every position laid on a track, as it is promised
+pub each_collapse_same : CollapseSame
+each_collapse_same t p laid = collapse_same laid

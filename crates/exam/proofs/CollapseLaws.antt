@@ -50,7 +50,7 @@ module _ {t : Track} {p q : Position} (list : List ℕ) (collapsed : Collapsed t
   pub collapse_listable : Ready t p → Listable q list
   collapse_listable ready =
       listable ready (collapsed_within collapsed)
-      (omega (arith, ap length collapsed.carriers, ap length (collapse_same t p ready.bounded.laid), named_most t p ready.bounded.laid))
+      (omega (arith, ap length collapsed.carriers, ap length (collapse_same ready.bounded.laid), named_most t p ready.bounded.laid))
 
   -- the position has only those
   pub collapse_position : Ready t p → q ≡ only_left (collapse_in t p (length list)).list p
@@ -71,7 +71,7 @@ module _ {t : Track} {p q : Position} (list : List ℕ) (collapsed : Collapsed t
 -- where the list is long enough, what was written is the key's list
 module _ {t : Track} {p : Position} (ready : Ready t p) {list list' : List ℕ} {number listed : ℕ} (given : CollapseGiven (collapse_in t p (length list)) list number listed list') (room : length (outs p) ≤ length list) where
   answer : (collapse_in t p (length list)).list ≡ named t p
-  answer = ap (λ (a : CollapseAnswer). a.list) (collapse_long t p (length list) room) ∙ collapse_same t p ready.bounded.laid
+  answer = ap (λ (a : CollapseAnswer). a.list) (collapse_long t p (length list) room) ∙ collapse_same ready.bounded.laid
 
   pub named_counted : listed ≡ length (named t p)
   named_counted = given.listed_is ∙ ap length answer

@@ -15,7 +15,8 @@ use Rattle.model.proofs.ReadingLaws.{no_row, laid_said}
 use Rattle.rules.specs.Routes.{UngatedStep, Entry, Route}
 use Rattle.rules.specs.Key.{run, named_by, key_for, key_for_by, key_in_by, key_of, key_of_by}
 use Rattle.least.specs.Ways.{Before}
-use Rattle.order.specs.LowestFirst.{LeastBy, LowestFirstBy, ended, leaves, Least, LowestFirst}
+use Rattle.order.specs.LowestFirst.{Least, LowestFirst}
+use Rattle.order.specs.LowestFirstBy.{LeastBy, LowestFirstBy}
 use Rattle.order.proofs.KeyRun.{run_lowest}
 use Rattle.homegate.specs.AgainstOlder.{OlderPlan, InOlderOrder, OlderKey}
 use Rattle.homegate.proofs.RouteCut.{route_ungated, cut_shorter, route_cut}
@@ -42,12 +43,12 @@ module _ {t : Track} {p : Position} {c : ℕ} {r : List ℕ} where
 
 module _ {t : Track} where
   order_older : {p q : Position} {es : List Entry} → LowestFirst t p es q → LowestFirstBy UngatedStep t p es q
-  order_older (ended none) = ended (λ c (r, g). none c (route_cut g))
-  order_older (leaves lower m more) = leaves (λ d l (r, g). lower d l (route_cut g)) (least_older m) (order_older more)
+  order_older (LowestFirst.ended none) = LowestFirstBy.ended (λ c (r, g). none c (route_cut g))
+  order_older (LowestFirst.leaves lower m more) = LowestFirstBy.leaves (λ d l (r, g). lower d l (route_cut g)) (least_older m) (order_older more)
 
   order_now : {p q : Position} {es : List Entry} → LowestFirstBy UngatedStep t p es q → LowestFirst t p es q
-  order_now (ended none) = ended (λ c (r, g). none c (r, route_ungated g))
-  order_now (leaves lower m more) = leaves (λ d l (r, g). lower d l (r, route_ungated g)) (least_now m) (order_now more)
+  order_now (LowestFirstBy.ended none) = LowestFirst.ended (λ c (r, g). none c (r, route_ungated g))
+  order_now (LowestFirstBy.leaves lower m more) = LowestFirst.leaves (λ d l (r, g). lower d l (r, route_ungated g)) (least_now m) (order_now more)
 
 pub older_plan : OlderPlan
 older_plan t p q es = (order_older, order_now)

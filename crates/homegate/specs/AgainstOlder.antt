@@ -7,7 +7,8 @@ use Rattle.rules.specs.Routes.{UngatedStep, LeavesElsewhere, Entry, RouteBy, Ret
 use Rattle.rules.specs.Tries.{CanGoBy, CanGo, into, home, Allowed, UngatedAllowed}
 use Rattle.rules.specs.Key.{leaves_home, ungated_steps, plan_words, KeyAnswer, key_of, key_of_by}
 use Rattle.rules.specs.Sheet.{by_rules, by_rules_by, mark_entry, mark_of, mark_of_by}
-use Rattle.order.specs.LowestFirst.{LowestFirstBy, LowestFirst}
+use Rattle.order.specs.LowestFirst.{LowestFirst}
+use Rattle.order.specs.LowestFirstBy.{LowestFirstBy}
 
 -- no board's verdict, plan or blocked list differs: for every list of bytes and every room lent the older rule has the same key. (The search count
 -- is another matter: nothing is reached past home now.)

@@ -56,7 +56,7 @@ module _ (b : List ℕ) (small : Bytes b) where
 
   left_few : refusal b ≡ 0 → length (left (track_said b) (position_said b)) ≤ 96
   unfolding key_for_by
-  left_few none = subst (λ (l : List ℕ). length l ≤ 96) (sym (collapse_same (track_said b) (position_said b) (ready_said b small none).bounded.laid)) (named_few none)
+  left_few none = subst (λ (l : List ℕ). length l ≤ 96) (sym (collapse_same (ready_said b small none).bounded.laid)) (named_few none)
 
   pub few_words : (planRoom listRoom : ℕ) → length (key_of b planRoom listRoom).plan ≤ 18624
   few_words = of_key b (λ a. length a.plan ≤ 18624) (λ n. omega arith) plan_few

@@ -9,14 +9,17 @@ use native.Mathlib.Nat.{le_antisymm}
 use lib.ListN.{length}
 use Rattle.model.specs.Track.{Track}
 use Rattle.model.specs.Position.{Position, retire}
+use Rattle.model.specs.Accepted.{Laid}
 use Rattle.rules.specs.Routes.{Entry}
 use Rattle.rules.specs.Tries.{CanGo}
+use Rattle.rules.specs.Key.{run}
 use Rattle.least.specs.Ways.{Before}
 use Rattle.order.specs.LowestFirst.{Least, LowestFirst, ended, leaves, OnePlan}
 use Rattle.order.proofs.LeastRoute.{before_once}
+use Rattle.order.proofs.KeyRun.{run_lowest}
 
 module _ {t : Track} where
-  least_one : {p : Position} {c : ℕ} {r s : List ℕ} → Least t p c r → Least t p c s → r ≡ s
+  pub least_one : {p : Position} {c : ℕ} {r s : List ℕ} → Least t p c r → Least t p c s → r ≡ s
   least_one {r = r} {s} a b = go (a.smallest s b.goes (sym same)) (b.smallest r a.goes same)
     where
       same : length r ≡ length s
@@ -39,11 +42,18 @@ module _ {t : Track} where
       let same : d.words ≡ e.words = least_one (rw q at a) b in
       λ i. record { carrier = q i; words = same i }
 
+  pub lowest_one : {p q r : Position} {es fs : List Entry} → LowestFirst t p es q → LowestFirst t p fs r → (es ≡ fs) × (q ≡ r)
+  lowest_one (ended n) (ended m) = (refl, refl)
+  lowest_one (ended n) (leaves {e = e} l a rest) = absurd (n e.carrier (e.words, a.goes))
+  lowest_one (leaves {e = e} l a rest) (ended n) = absurd (n e.carrier (e.words, a.goes))
+  lowest_one {p} (leaves {e = d} {es = ds} l a rest) (leaves {q = r} {e = e} {es = es} m b rest') =
+      let same : d.carrier ≡ e.carrier = next_carrier l a m b in
+      let tail = lowest_one rest (subst (λ (c : ℕ). LowestFirst t (retire c p) es r) (sym same) rest') in
+      (ap₂ (λ (x : Entry) (y : List Entry). x ∷ y) (next_entry same a b) tail.0, tail.1)
+
+  -- a sequence in the key's order is the key's plan
+  pub plan_only : {p q : Position} {es : List Entry} → Laid t p → LowestFirst t p es q → (es ≡ (run t p).plan) × (q ≡ (run t p).last)
+  plan_only {p} laid l = lowest_one l (run_lowest t p laid)
+
 pub one_plan : OnePlan
-one_plan t p q r es fs (ended n) (ended m) = (refl, refl)
-one_plan t p q r es fs (ended n) (leaves {e = e} l a rest) = absurd (n e.carrier (e.words, a.goes))
-one_plan t p q r es fs (leaves {e = e} l a rest) (ended n) = absurd (n e.carrier (e.words, a.goes))
-one_plan t p q r es fs (leaves {e = d} {es = ds} l a rest) (leaves {e = e} {es = gs} m b rest') =
-    let same : d.carrier ≡ e.carrier = next_carrier l a m b in
-    let tail = one_plan t (retire d.carrier p) q r ds gs rest (subst (λ (c : ℕ). LowestFirst t (retire c p) gs r) (sym same) rest') in
-    (ap₂ (λ (x : Entry) (y : List Entry). x ∷ y) (next_entry same a b) tail.0, tail.1)
+one_plan t p q r es fs a b = lowest_one a b

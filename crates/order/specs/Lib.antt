@@ -1,1 +1,2 @@
 pub mod LowestFirst
+pub mod LowestFirstBy

@@ -3,31 +3,21 @@
 use Rattle.std.specs.Prelude.{ℕ, ◌≤◌, ◌<◌, List, [], ◌∷◌, ◌≡◌, ◌⊎◌, length}
 use Rattle.model.specs.Track.{Track}
 use Rattle.model.specs.Position.{Position, retire}
-use Rattle.rules.specs.Routes.{Step, StepRule, RouteBy, Entry}
-use Rattle.rules.specs.Tries.{CanGoBy}
+use Rattle.rules.specs.Routes.{Route, Entry}
+use Rattle.rules.specs.Tries.{CanGo, NoneCanGo}
 use Rattle.least.specs.Ways.{Before}
 
--- By any rule for one step.
-module _ (step : StepRule) where
-  pub record LeastBy (t : Track) (p : Position) (c : ℕ) (r : List ℕ) : Type 0 where
-    pub goes : RouteBy step t p c r
-    pub fewest : (s : List ℕ) → RouteBy step t p c s → length r ≤ length s
-    pub smallest : (s : List ℕ) → RouteBy step t p c s → length s ≡ length r → (r ≡ s) ⊎ Before r s
+pub record Least (t : Track) (p : Position) (c : ℕ) (r : List ℕ) : Type 0 where
+  pub goes : Route t p c r
+  pub fewest : (s : List ℕ) → Route t p c s → length r ≤ length s
+  pub smallest : (s : List ℕ) → Route t p c s → length s ≡ length r → (r ≡ s) ⊎ Before r s
 
-  -- these entries in turn, up to a position in which none can go
-  pub data LowestFirstBy (t : Track) : Position → List Entry → Position → Type 0 where
-    ended : {p : Position} → ((c : ℕ) → CanGoBy step t p c → ⊥) → LowestFirstBy t p [] p
-    leaves :
-        {p q : Position} {e : Entry} {es : List Entry} → ((d : ℕ) → d < e.carrier → CanGoBy step t p d → ⊥) → LeastBy t p e.carrier e.words →
-        LowestFirstBy t (retire e.carrier p) es q → LowestFirstBy t p (e ∷ es) q
-
--- By the moving rule.
-
-abbrev pub Least : Track → Position → ℕ → List ℕ → Type 0
-Least = LeastBy Step
-
-abbrev pub LowestFirst : Track → Position → List Entry → Position → Type 0
-LowestFirst = LowestFirstBy Step
+-- these entries in turn, up to a position in which none can go
+pub data LowestFirst (t : Track) : Position → List Entry → Position → Type 0 where
+  ended : {p : Position} → NoneCanGo t p → LowestFirst t p [] p
+  leaves :
+      {p q : Position} {e : Entry} {es : List Entry} → ((d : ℕ) → d < e.carrier → CanGo t p d → ⊥) → Least t p e.carrier e.words →
+      LowestFirst t (retire e.carrier p) es q → LowestFirst t p (e ∷ es) q
 
 -- the key fixes one plan: from a position no two lists of entries, and no two last positions, are in its order
 abbrev pub OnePlan : Type 0

@@ -12,8 +12,8 @@ use Rattle.homegate.proofs.RouteCut.{orders_same}
 use Rattle.homegate.proofs.MarkAsBefore.{rules_gated, mark_or_32}
 use Rattle.homegate.proofs.SheetRunsOn.{sheet_runs_on}
 use Rattle.homegate.proofs.MovesAsBefore.{gate_in_moves}
-use Rattle.blocking.proofs.Loops.{free_part, loop_in_part}
-use Rattle.blocking.proofs.SameList.{collapse_same}
+use Rattle.blocking.proofs.Loops.{each_free_part, loop_in_part}
+use Rattle.blocking.proofs.SameList.{each_collapse_same}
 use Rattle.searchcount.proofs.Count.{search_count}
 use Rattle.alone.proofs.GoesAlone.{way_or_loop}
 use Rattle.alone.proofs.NeverOne.{alone_goes, never_one, some_is_two}
@@ -29,11 +29,11 @@ pub promised : Promised
 promised = record {
   base = record {
     refusal_right = refusal_right;
-    free_part = free_part;
+    free_part = each_free_part;
     one_plan = one_plan;
     key_right = key_right;
     named_right = named_right;
-    collapse_same = collapse_same;
+    collapse_same = each_collapse_same;
     move_tested = move_tested;
     forbidden_tested = forbidden_tested;
     starred_rows = starred_rows;

@@ -1,5 +1,5 @@
 -- A zone isn't entered again straight after itself. On a route: `another` of the step that leads from the one word to the other. By a single move:
--- the carrier's own zone is held, and a move goes into a free one.
+-- the law of MoveElsewhere.
 use Prim.Native.Nat.{ℕ, ◌+◌, ◌*◌}
 use mathlib.Core.List.{List, [], ◌∷◌, ◌++◌}
 use mathlib.Core.Path.{◌≡◌, sym, ◌∙◌, ap}
@@ -7,8 +7,8 @@ use native.Mathlib.Omega.{arith}
 use Rattle.model.specs.Track.{Track, zone_of, heading_of}
 use Rattle.model.specs.Position.{Position, at, Stands}
 use Rattle.rules.specs.Routes.{Onward, goes, route}
-use Rattle.rules.specs.Tries.{into, Allowed, enters}
 use Rattle.rules.specs.AnotherZone.{RoutesGoElsewhere, MovesGoElsewhere}
+use Rattle.rules.proofs.MoveElsewhere.{move_elsewhere}
 
 onward_elsewhere : {t : Track} {p : Position} {c x : ℕ} (w v : ℕ) (us vs : List ℕ) → Onward t p c x (us ++ w ∷ v ∷ vs) → zone_of v ≡ zone_of w → ⊥
 onward_elsewhere w v [] vs (goes s (goes r o)) = r.ungated.another
@@ -19,9 +19,4 @@ routes_go_elsewhere t p c w v [] vs (route s (goes r o)) = r.ungated.another
 routes_go_elsewhere t p c w v (u ∷ us) vs (route s o) = onward_elsewhere w v us vs o
 
 pub moves_go_elsewhere : MovesGoElsewhere
-moves_go_elsewhere t p q c u w s a e = go w q a e
-  where
-    go : (w : ℕ) (q : Position) → Allowed t p (into c w) q → zone_of w ≡ zone_of u → ⊥
-    go w q (enters x y elsewhere below free touches) e =
-        let held : 2 * c + heading_of u ≡ 0 = sym s.holds ∙ ap (at p) (sym e) ∙ free in
-        s.numbered (omega arith)
+moves_go_elsewhere t p q c u w s a = move_elsewhere s a

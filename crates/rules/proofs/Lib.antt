@@ -4,6 +4,7 @@ pub mod StepTested
 pub mod StepsAfter
 pub mod Standing
 pub mod MoveTested
+pub mod MoveElsewhere
 pub mod AnotherZone
 pub mod MovesGated
 pub mod OutTested

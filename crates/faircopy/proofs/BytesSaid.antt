@@ -1,6 +1,6 @@
 -- What the bytes of a board say: the version, the track and the position that they were made of.
 -- Byte by byte: a byte of an entry is the one at its place (Entries.antt), and what the reader takes from these places is what was put there.
-use Prim.Native.Nat.{ℕ, ◌+◌, ◌-◌, ◌*◌, ◌≤◌, ◌<◌}
+use Prim.Native.Nat.{ℕ, ◌+◌, ◌*◌, ◌≤◌, ◌<◌}
 use native.Mathlib.Omega.{arith}
 use mathlib.Core.List.{map, flatten}
 use mathlib.Core.Path.{◌≡◌, refl, sym, ◌∙◌, ap, ap₂, subst}

@@ -98,49 +98,49 @@ module _ (t : Track) where
   length_joins ls (z ∷ zs) = length_joins (join_zone t ls z) zs ∙ length_join ls (start t (2 * z)) (leave t (2 * z))
 
   module _ (ls : List ℕ) (z : ℕ) (zs : List ℕ) (i : EndsIn (z ∷ zs) (length ls)) where
-    abbrev end_a_lem : ℕ
-    end_a_lem = start t (2 * z)
+    abbrev end_a : ℕ
+    end_a = start t (2 * z)
 
-    abbrev end_b_lem : ℕ
-    end_b_lem = leave t (2 * z)
+    abbrev end_b : ℕ
+    end_b = leave t (2 * z)
 
-    a_in : end_a_lem < length ls
+    a_in : end_a < length ls
     a_in = (i z (Memᴰ.head refl)).0
 
-    b_in : end_b_lem < length ls
+    b_in : end_b < length ls
     b_in = (i z (Memᴰ.head refl)).1
 
-    to_start : (r : ℕ) → r < length ls → InJoin ls end_a_lem end_b_lem r → Tied t ls (z ∷ zs) r end_a_lem
+    to_start : (r : ℕ) → r < length ls → InJoin ls end_a end_b r → Tied t ls (z ∷ zs) r end_a
     to_start r h (inl e) = alike h a_in e
     to_start r h (inr e) = onward (alike h b_in e) (back (ends z (Memᴰ.head refl)))
 
-    shorter : (r : ℕ) → r < length (join_points ls end_a_lem end_b_lem) → r < length ls
-    shorter r h = subst (λ (n : ℕ). r < n) (length_join ls end_a_lem end_b_lem) h
+    shorter : (r : ℕ) → r < length (join_points ls end_a end_b) → r < length ls
+    shorter r h = subst (λ (n : ℕ). r < n) (length_join ls end_a end_b) h
 
-    longer : (r : ℕ) → r < length ls → r < length (join_points ls end_a_lem end_b_lem)
-    longer r h = subst (λ (n : ℕ). r < n) (sym (length_join ls end_a_lem end_b_lem)) h
+    longer : (r : ℕ) → r < length ls → r < length (join_points ls end_a end_b)
+    longer r h = subst (λ (n : ℕ). r < n) (sym (length_join ls end_a end_b)) h
 
-    untie : {r s : ℕ} → Tied t (join_points ls end_a_lem end_b_lem) zs r s → Tied t ls (z ∷ zs) r s
+    untie : {r s : ℕ} → Tied t (join_points ls end_a end_b) zs r s → Tied t ls (z ∷ zs) r s
     untie = tied_least (Tied t ls (z ∷ zs)) same (λ y m. ends y (Memᴰ.tail m)) (λ _ _ x. back x) (λ _ _ _ x y. onward x y)
       where
-        go : (r s : ℕ) → r < length ls → s < length ls → (label ls r ≡ label ls s) ⊎ (InJoin ls end_a_lem end_b_lem r × InJoin ls end_a_lem end_b_lem s) → Tied t ls (z ∷ zs) r s
+        go : (r s : ℕ) → r < length ls → s < length ls → (label ls r ≡ label ls s) ⊎ (InJoin ls end_a end_b r × InJoin ls end_a end_b s) → Tied t ls (z ∷ zs) r s
         go r s h k (inl e) = alike h k e
         go r s h k (inr j) = onward (to_start r h j.0) (back (to_start s k j.1))
 
-        same : (r s : ℕ) → r < length (join_points ls end_a_lem end_b_lem) → s < length (join_points ls end_a_lem end_b_lem) → label (join_points ls end_a_lem end_b_lem) r ≡ label (join_points ls end_a_lem end_b_lem) s → Tied t ls (z ∷ zs) r s
-        same r s h k e = go r s (shorter r h) (shorter s k) (join_same ls end_a_lem end_b_lem r s (shorter r h) (shorter s k) e)
+        same : (r s : ℕ) → r < length (join_points ls end_a end_b) → s < length (join_points ls end_a end_b) → label (join_points ls end_a end_b) r ≡ label (join_points ls end_a end_b) s → Tied t ls (z ∷ zs) r s
+        same r s h k e = go r s (shorter r h) (shorter s k) (join_same ls end_a end_b r s (shorter r h) (shorter s k) e)
 
-    tie : {r s : ℕ} → Tied t ls (z ∷ zs) r s → Tied t (join_points ls end_a_lem end_b_lem) zs r s
-    tie = tied_least (Tied t (join_points ls end_a_lem end_b_lem) zs) same (λ y m. zone y (Memᴰ.cases_cons m)) (λ _ _ x. back x) (λ _ _ _ x y. onward x y)
+    tie : {r s : ℕ} → Tied t ls (z ∷ zs) r s → Tied t (join_points ls end_a end_b) zs r s
+    tie = tied_least (Tied t (join_points ls end_a end_b) zs) same (λ y m. zone y (Memᴰ.cases_cons m)) (λ _ _ x. back x) (λ _ _ _ x y. onward x y)
       where
-        same : (r s : ℕ) → r < length ls → s < length ls → label ls r ≡ label ls s → Tied t (join_points ls end_a_lem end_b_lem) zs r s
-        same r s h k e = alike (longer r h) (longer s k) (same_join ls end_a_lem end_b_lem r s h k (inl e))
+        same : (r s : ℕ) → r < length ls → s < length ls → label ls r ≡ label ls s → Tied t (join_points ls end_a end_b) zs r s
+        same r s h k e = alike (longer r h) (longer s k) (same_join ls end_a end_b r s h k (inl e))
 
-        joined : Tied t (join_points ls end_a_lem end_b_lem) zs end_a_lem end_b_lem
-        joined = alike (longer end_a_lem a_in) (longer end_b_lem b_in) (same_join ls end_a_lem end_b_lem end_a_lem end_b_lem a_in b_in (inr (inl refl, inr refl)))
+        joined : Tied t (join_points ls end_a end_b) zs end_a end_b
+        joined = alike (longer end_a a_in) (longer end_b b_in) (same_join ls end_a end_b end_a end_b a_in b_in (inr (inl refl, inr refl)))
 
-        zone : (y : ℕ) → (y ≡ z) ⊎ Memᴰ y zs → Tied t (join_points ls end_a_lem end_b_lem) zs (start t (2 * y)) (leave t (2 * y))
-        zone y (inl e) = subst (λ (x : ℕ). Tied t (join_points ls end_a_lem end_b_lem) zs (start t (2 * x)) (leave t (2 * x))) (sym e) joined
+        zone : (y : ℕ) → (y ≡ z) ⊎ Memᴰ y zs → Tied t (join_points ls end_a end_b) zs (start t (2 * y)) (leave t (2 * y))
+        zone y (inl e) = subst (λ (x : ℕ). Tied t (join_points ls end_a end_b) zs (start t (2 * x)) (leave t (2 * x))) (sym e) joined
         zone y (inr m) = ends y m
 
   tied_none : (ls : List ℕ) {r s : ℕ} → Tied t ls [] r s → label ls r ≡ label ls s

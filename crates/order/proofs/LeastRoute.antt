@@ -12,7 +12,7 @@ use lib.ListN.{length}
 use lib.Dec.{eqb}
 use borrow.Author.Tests.{eqb-true, eqb-false, eq-eqb}
 use Rattle.model.specs.Track.{Track}
-use Rattle.model.specs.Position.{Position, at, Stands, Out, Once}
+use Rattle.model.specs.Position.{Position, Stands, Out, Once}
 use Rattle.model.specs.Accepted.{Laid}
 use Rattle.model.proofs.PositionLaws.{stands_word, stands_below}
 use Rattle.rules.specs.Routes.{OnwardBy, Onward, Route, route}

@@ -1,6 +1,6 @@
 -- Words put at the end of the queue's arrays: what is still to come decides what the arrays hold at the end.
 -- Stores go one by one (`sets` of lib.Seq), so one word more is one step, and several are several steps.
-use Prim.Native.Nat.{ℕ, suc, ◌+◌, ◌-◌}
+use Prim.Native.Nat.{ℕ, suc, ◌+◌}
 use mathlib.Core.Path.{◌≡◌, refl, sym, ◌∙◌, ap, ap₂}
 use mathlib.Core.List.{List, [], ◌∷◌, ◌++◌, map, map-append}
 use native.Mathlib.Numerals.{add-one}

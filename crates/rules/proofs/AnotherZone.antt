@@ -1,11 +1,10 @@
 -- A zone isn't entered again straight after itself. On a route: `another` of the step that leads from the one word to the other. By a single move:
 -- the law of MoveElsewhere.
-use Prim.Native.Nat.{ℕ, ◌+◌, ◌*◌}
+use Prim.Native.Nat.{ℕ}
 use mathlib.Core.List.{List, [], ◌∷◌, ◌++◌}
-use mathlib.Core.Path.{◌≡◌, sym, ◌∙◌, ap}
-use native.Mathlib.Omega.{arith}
-use Rattle.model.specs.Track.{Track, zone_of, heading_of}
-use Rattle.model.specs.Position.{Position, at, Stands}
+use mathlib.Core.Path.{◌≡◌}
+use Rattle.model.specs.Track.{Track, zone_of}
+use Rattle.model.specs.Position.{Position}
 use Rattle.rules.specs.Routes.{Onward, goes, route}
 use Rattle.rules.specs.AnotherZone.{RoutesGoElsewhere, MovesGoElsewhere}
 use Rattle.rules.proofs.MoveElsewhere.{move_elsewhere}

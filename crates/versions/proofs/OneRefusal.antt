@@ -26,8 +26,8 @@ alike_sym {b} {d} s = record {
   points = sym s.points;
   home = sym s.home;
   zones = sym s.zones;
-  end_a_lem = λ z h. sym (s.end_a_lem z (inside z h));
-  end_b_lem = λ z h. sym (s.end_b_lem z (inside z h));
+  ends_a = λ z h. sym (s.ends_a z (inside z h));
+  ends_b = λ z h. sym (s.ends_b z (inside z h));
   carrier = λ z h. sym (s.carrier z (inside z h));
   heading = λ z h. sym (s.heading z (inside z h));
 }
@@ -42,8 +42,8 @@ module _ {b d : List ℕ} (s : SayAlike b d) where
   end_alike w h = go (heading_cases b w)
     where
       go : (heading_of w ≡ 0) ⊎ (heading_of w ≡ 1) → end_said b w ≡ end_said d w
-      go (inl e) = said_a b w e ∙ s.end_a_lem (zone_of w) (zone_below (zones_said b) w h) ∙ sym (said_a d w e)
-      go (inr e) = said_b b w e ∙ s.end_b_lem (zone_of w) (zone_below (zones_said b) w h) ∙ sym (said_b d w e)
+      go (inl e) = said_a b w e ∙ s.ends_a (zone_of w) (zone_below (zones_said b) w h) ∙ sym (said_a d w e)
+      go (inr e) = said_b b w e ∙ s.ends_b (zone_of w) (zone_below (zones_said b) w h) ∙ sym (said_b d w e)
 
   track_alike : track_said b ≡ track_said d
   unfolding track_said
@@ -76,8 +76,8 @@ row_alike past s (few_zones h) = absurd (past 4 (omega arith) (few_zones h))
 row_alike past s (many_zones h) = absurd (past 4 (omega arith) (many_zones h))
 row_alike past s (not_four_each v h) = absurd (past 5 (omega arith) (not_four_each v h))
 row_alike past s (not_five_each v h) = absurd (past 5 (omega arith) (not_five_each v h))
-row_alike past s (end_a_outside z i h) = end_a_outside z (omega (arith, s.zones)) (omega (arith, s.points, s.end_a_lem z i))
-row_alike past s (end_b_outside z i h) = end_b_outside z (omega (arith, s.zones)) (omega (arith, s.points, s.end_b_lem z i))
+row_alike past s (end_a_outside z i h) = end_a_outside z (omega (arith, s.zones)) (omega (arith, s.points, s.ends_a z i))
+row_alike past s (end_b_outside z i h) = end_b_outside z (omega (arith, s.zones)) (omega (arith, s.points, s.ends_b z i))
 row_alike past s (heading_over_1 z i h) = heading_over_1 z (omega (arith, s.zones)) (omega (arith, s.heading z i))
 row_alike past s (free_with_1 z i c h) = free_with_1 z (omega (arith, s.zones)) (sym (s.carrier z i) ∙ c) (sym (s.heading z i) ∙ h)
 row_alike past s (in_two_zones y z i j d c e) =

@@ -57,8 +57,8 @@ pub record SayAlike (b d : List ℕ) : Type 0 where
   pub points : points_said b ≡ points_said d
   pub home : home_said b ≡ home_said d
   pub zones : zones_said b ≡ zones_said d
-  pub end_a_lem : (z : ℕ) → z < zones_said b → end_a b z ≡ end_a d z
-  pub end_b_lem : (z : ℕ) → z < zones_said b → end_b b z ≡ end_b d z
+  pub ends_a : (z : ℕ) → z < zones_said b → end_a b z ≡ end_a d z
+  pub ends_b : (z : ℕ) → z < zones_said b → end_b b z ≡ end_b d z
   pub carrier : (z : ℕ) → z < zones_said b → carrier_in b z ≡ carrier_in d z
   pub heading : (z : ℕ) → z < zones_said b → heading_in b z ≡ heading_in d z
 

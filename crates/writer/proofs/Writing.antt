@@ -1,12 +1,12 @@
 -- The write on a track, by its tests: 39 for a sheet of another size, a word over the limit or too little room, else the copy's own rows.
 -- Each case of the definition; the bytes drafted are the copy's, and on the track of an accepted board rows 6 and 7 are all that can refuse them.
-use Prim.Native.Nat.{ℕ, ◌+◌, ◌≤◌, ◌<◌}
+use Prim.Native.Nat.{ℕ, ◌≤◌, ◌<◌}
 use native.Mathlib.Omega.{arith}
-use mathlib.Core.List.{List, ◌++◌}
+use mathlib.Core.List.{List}
 use mathlib.Core.Path.{◌≡◌, refl, sym, ◌∙◌, ap, ap₂, subst}
 use mathlib.Core.Bool.{Bool, true, false, not, ◌||◌}
 use lib.ListN.{length, take, drop}
-use lib.Seq.{take_at, take-length}
+use lib.Seq.{take_at}
 use lib.Dec.{leb, ltb, eqb}
 use borrow.Author.Tests.{lt-ltb, le-ltb, eq-eqb, ne_eqb, le-leb, leb-true}
 use Rattle.model.specs.Layout.{entry_from}

@@ -44,9 +44,7 @@ refusal-requires c = (
   inside _
       (answered c.out_of_range.ensures c.if-out_of_range.false)
       (no_bad_zone _ (sym c.refusal-number.ensures ∙ c.if-number-ne0.false)),
-
 )
-
 
 pub returns : goal.returns
 returns c = search (rows_8_9, answered)

@@ -1,6 +1,6 @@
 -- `marker::mark_entries` meets its contract: it gives the number of the plan.
 -- The invariant: the entries from `place` on, in the position as it is now, have the whole plan's number. The measure is how many words are left.
-use Prim.Native.Nat.{◌+◌, ◌-◌, ◌≤◌}
+use Prim.Native.Nat.{◌+◌, ◌≤◌}
 use mathlib.Core.Path.{◌≡◌, sym, ◌∙◌}
 use native.Mathlib.Omega.{arith}
 use lib.ListN.{length, get_or}

@@ -26,7 +26,7 @@ pub returns-then-left-lt2 : goal.returns-then-left-lt2
 returns-then-left-lt2 c = short_fails c.requires.1 c.if-left-lt2.true
 
 pub overflow_cast-count : goal.overflow_cast-count
-overflow_cast-count c = let a = c.args in omega (arith, c.shared_slice_known-3-1.given (a.place + 1))
+overflow_cast-count c = let a = c.args in omega (arith, c.type_inv.sheet (a.place + 1))
 
 pub returns-then-count-eq0 : goal.returns-then-count-eq0
 returns-then-count-eq0 c = empty_fails c.if-left-lt2.false c.if-count-eq0.true
@@ -35,14 +35,14 @@ pub returns-then-left-count : goal.returns-then-left-count
 returns-then-left-count c = past_fails c.if-left-lt2.false c.if-left-count.true
 
 pub overflow_cast-carrier : goal.overflow_cast-carrier
-overflow_cast-carrier c = let a = c.args in omega (arith, c.shared_slice_known-4-1.given a.place)
+overflow_cast-carrier c = let a = c.args in omega (arith, c.type_inv.sheet a.place)
 
 pub overflow_cast-standing : goal.overflow_cast-standing
-overflow_cast-standing c = let a = c.args in omega (arith, c.shared_slice_known-5-1.given (a.place + 2))
+overflow_cast-standing c = let a = c.args in omega (arith, c.type_inv.sheet (a.place + 2))
 
 pub stands-requires : goal.stands-requires
 stands-requires c =
-    (c.requires.0.each, omega (arith, c.shared_slice_known-4-1.given c.args.place))
+    (c.requires.0.each, omega (arith, c.type_inv.sheet c.args.place))
 
 pub still_out-requires : goal.still_out-requires
 still_out-requires c = tt

@@ -1,6 +1,5 @@
 -- `marker::same_claim` meets its contract: whether the sheet's words from `from` on are the list's first `count` carriers.
 -- The invariant: what is left of the claim and of the list compare as the whole does. The measure is how many carriers are left.
-use Prim.Native.Nat.{◌-◌}
 use mathlib.Core.Path.{sym}
 use Rattle.marker.proofs.ClaimLaws.{lengths_differ, compare_begins, numbers_differ, compare_on, compare_ended}
 use Rattle.marker.proofs.same_claim.Goals as goal

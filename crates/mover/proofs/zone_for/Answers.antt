@@ -1,6 +1,5 @@
 -- `mover::zone_for` meets its contract: it gives the zone found for the carrier.
 -- The invariant: no zone before z holds the carrier's number; each turn looks at two more. The measure is how many zones are left.
-use Prim.Native.Nat.{◌-◌}
 use native.Mathlib.Omega.{arith}
 use Rattle.mover.proofs.ZoneLaws.{look_begins, look_on, look_on_two, look_found, look_ended}
 use Rattle.mover.proofs.zone_for.Goals as goal

@@ -1,11 +1,9 @@
 -- `parts::add_ways` meets its contract: the ways are those over all words that a set goes on over.
 -- The invariant: the ways are those over such words below w (laws of WordWays). The measure is how many words are left.
-use Prim.Native.Nat.{◌-◌, ◌*◌, ◌<◌}
+use Prim.Native.Nat.{◌*◌, ◌<◌}
 use mathlib.Core.Path.{◌≡◌, sym, ◌∙◌}
-use mathlib.Core.Logic.{⊎_elim}
 use native.Mathlib.Omega.{arith}
 use lib.ListN.{length}
-use Rattle.parts.specs.Ways.{goes_on}
 use Rattle.parts.proofs.WordWays.{over_none, over_added, over_skip, end_inside}
 use Rattle.parts.proofs.add_ways.Goals as goal
 use Rattle.parts.proofs.add_ways.Goals.{then-goes_on, else-goes_on}
@@ -27,8 +25,8 @@ loop-w-preserved c =
     let w = c.loop-w.w in (
       omega arith,
       elim c.if-goes_on.branch [
-        then-goes_on k ↦ over_added c.args.ends.now _ w _ c.loop-w.invariant.1 (sym c.goes_on.ensures ∙ k.if-goes_on.true) (c.requires.0.inside w (omega (arith, c.requires.0.ends_count, c.loop-w-test.true))) k.leaving-q.ensures (k.ways-is ∙ k.add_way.ensures)
-      | else-goes_on k ↦ rw k.ways-is (over_skip c.args.ends.now _ w _ c.loop-w.invariant.1 (sym c.goes_on.ensures ∙ k.if-goes_on.false))
+        | then-goes_on k ↦ over_added c.args.ends.now _ w _ c.loop-w.invariant.1 (sym c.goes_on.ensures ∙ k.if-goes_on.true) (c.requires.0.inside w (omega (arith, c.requires.0.ends_count, c.loop-w-test.true))) k.leaving-q.ensures (k.ways-is ∙ k.add_way.ensures)
+        | else-goes_on k ↦ rw k.ways-is (over_skip c.args.ends.now _ w _ c.loop-w.invariant.1 (sym c.goes_on.ensures ∙ k.if-goes_on.false))
       ],
     )
 

@@ -1,8 +1,7 @@
 -- `parts::count_starts` meets its contract: it counts the free zones by the point at their end A.
 -- The invariant: the counts are those of the zones below z (laws of StartLaws). The measure is how many zones are left.
-use Prim.Native.Nat.{◌-◌, ◌*◌}
+use Prim.Native.Nat.{◌*◌}
 use mathlib.Core.Path.{◌≡◌, sym, ap, ◌∙◌}
-use mathlib.Core.Logic.{⊎_elim}
 use native.Mathlib.Omega.{arith}
 use borrow.Author.Tests.{eq-eqb, ne_eqb}
 use lib.ListN.{length}
@@ -40,8 +39,8 @@ loop-z-preserved c =
     let p = c.args.position.now in (
       omega arith,
       elim c.if-position-z-eq0.branch [
-        then-position-z-eq0 k ↦ rw k.counts-is (starts_free c.loop-z.invariant.1 (eq-eqb (at p z) 0 k.if-position-z-eq0.true) (c.requires.0.inside (2 * z) (omega arith)))
-      | else-position-z-eq0 k ↦ rw k.counts-is (starts_held c.loop-z.invariant.1 (ne_eqb (at p z) 0 k.if-position-z-eq0.false))
+        | then-position-z-eq0 k ↦ rw k.counts-is (starts_free c.loop-z.invariant.1 (eq-eqb (at p z) 0 k.if-position-z-eq0.true) (c.requires.0.inside (2 * z) (omega arith)))
+        | else-position-z-eq0 k ↦ rw k.counts-is (starts_held c.loop-z.invariant.1 (ne_eqb (at p z) 0 k.if-position-z-eq0.false))
       ],
     )
 

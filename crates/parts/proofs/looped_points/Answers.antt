@@ -2,11 +2,9 @@
 -- those of parts with a loop are marked (laws of PartByPart). The measure is how many points are not grown from.
 -- The loop does not read the head, so the invariant says it of every head that fits the ends and has the points in `all`.
 -- Each turn grows the part of the lowest point not grown from; the sum of its counts is how many free zones start in it (laws of StartLaws).
-use Prim.Native.Nat.{◌-◌}
 use mathlib.Core.Path.{refl, sym, ◌∙◌}
-use mathlib.Core.Logic.{⊎_elim}
 use native.Mathlib.Omega.{arith}
-use lib.Count.{ones, ones-le}
+use lib.Count.{ones-le}
 use Rattle.parts.proofs.WordWays.{over_all, over_ways, among_most, among_each}
 use Rattle.parts.proofs.StartLaws.{count_in_lem, count_in_most}
 use Rattle.parts.proofs.PartByPart.{looping_none, looping_untouched, looping_marks, looping_passes, looping_fewer, looping_all, looping_once}
@@ -65,10 +63,10 @@ loop-rest-preserved c head among all =
     let sum = count_in_lem among starts c.grow_once-growth.result.found in
     rw (c.fresh-rest-in-loop-rest.ensures, all)
     (elim c.if-size-zones_in.branch [
-      then-size-zones_in k ↦ rw k.looped-is
-        (looping_marks among.few inv low c.grow_once-growth.ensures among over (omega (arith, c.size.ensures, c.zones_in.ensures, sum, k.if-size-zones_in.true)))
-    | else-size-zones_in k ↦ rw k.looped-is
-        (looping_passes among.few inv low c.grow_once-growth.ensures among over (omega (arith, c.size.ensures, c.zones_in.ensures, sum, k.if-size-zones_in.false)))
+      | then-size-zones_in k ↦ rw k.looped-is
+          (looping_marks among.few inv low c.grow_once-growth.ensures among over (omega (arith, c.size.ensures, c.zones_in.ensures, sum, k.if-size-zones_in.true)))
+      | else-size-zones_in k ↦ rw k.looped-is
+          (looping_passes among.few inv low c.grow_once-growth.ensures among over (omega (arith, c.size.ensures, c.zones_in.ensures, sum, k.if-size-zones_in.false)))
     ])
 
 pub returns : goal.returns

@@ -1,6 +1,5 @@
 -- `reach::grow_once` meets its contract: it finds the points that are reached from one, puts them into the set, and counts as many steps.
 -- The invariant is Growing (laws of GrowLaws): a fresh point was not grown from, as the step asks. The measure: points not grown from.
-use Prim.Native.Nat.{◌-◌}
 use native.Mathlib.Omega.{arith}
 use Rattle.reach.proofs.GrowLaws.{begins, turns, fewer, ends, step_found, step_new, step_room}
 use Rattle.reach.proofs.WayLaws.{reach_inside}
@@ -32,7 +31,7 @@ loop-fresh-smaller c =
 
 pub loop-fresh-preserved : goal.loop-fresh-preserved
 loop-fresh-preserved c =
-    let fits = (c.shared_slice_known-1.given c.lowest-p.result).fits in
+    let fits = (c.type_inv.ways c.lowest-p.result).fits in
     let step = c.step-stepped.ensures in
     rw (c.fresh-fresh-in-loop-fresh.ensures, step.0) (turns c.loop-fresh.invariant c.lowest-p.ensures c.step-stepped.result.after step.1 c.requires.2 fits step.2)
 

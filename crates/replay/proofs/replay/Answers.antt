@@ -11,7 +11,7 @@ use Rattle.replay.proofs.replay.Goals as goal
 
 -- the bytes that were lent
 bytes : (c : After-read_into-read) → Bytes c.args.bytes.now
-bytes c i = (c.shared_slice_known-1.given i).fits
+bytes c i = (c.type_inv.bytes i).fits
 
 pub returns-then-number-ne0 : goal.returns-then-number-ne0
 returns-then-number-ne0 c = replay_turned_back _ _ _ c.read_into-read.ensures c.if-number-ne0.true

@@ -11,7 +11,7 @@ use Rattle.writer.proofs.write.Goals as goal
 
 -- the bytes that were lent
 bytes : (c : After-read_into-read) → Bytes c.args.bytes.now
-bytes c i = (c.shared_slice_known-1.given i).fits
+bytes c i = (c.type_inv.bytes i).fits
 
 pub overflow_mul-ends_count : goal.overflow_mul-ends_count
 overflow_mul-ends_count c = omega (arith, (said c.read_into-read.ensures c.if-number-ne0.false).few_zones)

@@ -1,6 +1,6 @@
 -- `arrays` fills the track's list of ends and the position, each made long enough by zeros.
 -- The invariant: the first 2 × z ends and the first z places of the position are filled.
-use Prim.Native.Nat.{◌-◌, ◌*◌, ◌<◌}
+use Prim.Native.Nat.{◌*◌, ◌<◌}
 use mathlib.Core.Path.{◌≡◌, sym, ◌∙◌, ap}
 use native.Mathlib.Omega.{arith}
 use lib.ListN.{length, length-set}

@@ -5,7 +5,7 @@ use borrow.Author.Rules.{rules}
 use Rattle.board.proofs.input.byte.Goals as goal
 
 pub overflow_cast-result : goal.overflow_cast-result
-overflow_cast-result c = omega (arith, c.shared_slice_known-1.given c.args.i)
+overflow_cast-result c = omega (arith, c.type_inv.bytes c.args.i)
 
 pub returns : goal.returns
-returns c = record { is = search rules; small = (c.shared_slice_known-1.given c.args.i).fits }
+returns c = record { is = search rules; small = (c.type_inv.bytes c.args.i).fits }

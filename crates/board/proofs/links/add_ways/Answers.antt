@@ -1,6 +1,6 @@
 -- `add_ways` adds the ways of all words, and gives the points where two or more start.
 -- The invariant: both are done for the words of the first z zones.
-use Prim.Native.Nat.{◌-◌, ◌<◌}
+use Prim.Native.Nat.{◌<◌}
 use mathlib.Core.Path.{sym, ◌∙◌, ap}
 use native.Mathlib.Omega.{arith}
 use lib.ListN.{length}

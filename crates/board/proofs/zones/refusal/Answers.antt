@@ -1,7 +1,5 @@
 -- `refusal` is rows 6 and 7: the first of them that holds.
 -- The invariant: no zone before z is bad, the table has the low bytes of their carriers, and it is known whether one of them stood before.
-use Prim.Native.Nat.{◌-◌}
-use mathlib.Core.Logic.{⊎_elim}
 use mathlib.Core.Path.{refl, sym, ◌∙◌}
 use native.Mathlib.Omega.{arith}
 use Rattle.model.specs.Reading.{bad_zone}
@@ -49,12 +47,12 @@ loop-z-preserved c =
       none_next (bad_zone _) inv.0 c.loop-z-test.true (sym c.bad.ensures ∙ c.if-bad.false),
       seen_next inv.1 zone,
       elim c.if-carrier-ne0.branch [
-        then-carrier-ne0+then-seen-low+then-stood_before w ↦ w.repeated-is ∙ again_met _ _ (repeated_met zone w.if-carrier-ne0.true (sym w.if-stood_before.true ∙ w.stood_before.ensures))
-      | then-carrier-ne0+then-seen-low+else-stood_before w ↦ w.repeated-is ∙ again_none _ _ inv.2 (repeated_new zone (sym w.if-stood_before.false ∙ w.stood_before.ensures))
-      | else-carrier-ne0 w ↦ w.repeated-is ∙ again_none _ _ inv.2 (elim w.else-carrier-ne0.branch [
-            else-carrier-ne0-via-then-carrier-ne0+else-seen-low v ↦ repeated_new zone (new_carrier inv.1 zone v.if-seen-low.false)
+        | then-carrier-ne0+then-seen-low+then-stood_before w ↦ w.repeated-is ∙ again_met _ _ (repeated_met zone w.if-carrier-ne0.true (sym w.if-stood_before.true ∙ w.stood_before.ensures))
+        | then-carrier-ne0+then-seen-low+else-stood_before w ↦ w.repeated-is ∙ again_none _ _ inv.2 (repeated_new zone (sym w.if-stood_before.false ∙ w.stood_before.ensures))
+        | else-carrier-ne0 w ↦ w.repeated-is ∙ again_none _ _ inv.2 (elim w.else-carrier-ne0.branch [
+          | else-carrier-ne0-via-then-carrier-ne0+else-seen-low v ↦ repeated_new zone (new_carrier inv.1 zone v.if-seen-low.false)
           | else-carrier-ne0-via-else-carrier-ne0 v ↦ repeated_free zone v.if-carrier-ne0.false
-          ])
+        ])
       ],
     )
 

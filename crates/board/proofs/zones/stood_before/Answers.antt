@@ -1,6 +1,5 @@
 -- `stood_before` tells whether one of the zones before z has the carrier.
 -- The invariant: none of those before y has it.
-use Prim.Native.Nat.{◌-◌}
 use Rattle.board.proofs.Turns.{none_first, none_next}
 use Rattle.board.proofs.Repeats.{stood_met, stood_none, another}
 use Rattle.board.proofs.ZoneBytes.{zone_before}

@@ -1,6 +1,5 @@
 -- `marker::out::mark_end` meets its contract: 34 where a carrier is still out, else 0.
 -- The invariant: a zone is held from zone z on exactly where one is in the whole position. The measure is how many zones are left.
-use Prim.Native.Nat.{◌-◌}
 use mathlib.Core.Path.{sym, ap, ◌∙◌}
 use borrow.Author.Tests.{eq-eqb, ne_eqb}
 use mathlib.Core.Bool.{not}

@@ -1,6 +1,5 @@
 -- `marker::out::still_out` meets its contract: whether the carrier stands in a zone.
 -- The invariant: what is found from zone z on is what is found in the whole position. The measure is how many zones are left.
-use Prim.Native.Nat.{◌-◌}
 use mathlib.Core.Path.{sym, ◌∙◌}
 use borrow.Author.Tests.{eq-eqb, ne_eqb}
 use Rattle.marker.proofs.ScanLaws.{scan_begins, scan_passed, scan_found, scan_ended, out_none, out_scanned}

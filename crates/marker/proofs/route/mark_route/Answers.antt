@@ -1,6 +1,5 @@
 -- `marker::route::mark_route` meets its contract: it gives the number of the route.
 -- The invariant: the words from place i on, after word w, have the whole route's number. The measure is how many words are left.
-use Prim.Native.Nat.{◌-◌}
 use mathlib.Core.Bool.{not}
 use mathlib.Core.Path.{ap, refl}
 use native.Mathlib.Omega.{arith}
@@ -24,7 +23,7 @@ pub bounds-sheet-i : goal.bounds-sheet-i
 bounds-sheet-i c = omega (arith, c.loop-i.invariant.room)
 
 pub overflow_cast-v : goal.overflow_cast-v
-overflow_cast-v c = omega (arith, c.shared_slice_known-in-loop-i-1.given c.loop-i.i)
+overflow_cast-v c = omega (arith, c.type_inv.sheet c.loop-i.i)
 
 pub returns-then-head-v : goal.returns-then-head-v
 returns-then-head-v c = no_word c.loop-i.invariant c.loop-i-test.true (omega arith)

@@ -1,6 +1,6 @@
 -- `offer_next` offers the words that come after `last`: the enterable ones are at the queue's end and are enterable no more.
 -- The invariant: with the words of block k on stored from n on, the arrays are as they will be at the end, and below block k the set is done. The measure is 3 - k.
-use Prim.Native.Nat.{◌+◌, ◌-◌, ◌*◌}
+use Prim.Native.Nat.{◌+◌, ◌*◌}
 use native.Mathlib.Omega.{arith}
 use Rattle.queue.proofs.OfferBlocks.{going_starts, going_room, going_more, going_done}
 use Rattle.queue.proofs.offers.offer_next.Goals as goal
@@ -18,7 +18,7 @@ pub loop-k-preserved : goal.loop-k-preserved
 loop-k-preserved c =
     rw c.minus.ensures
     (going_more c.requires c.loop-k.invariant c.loop-k-test.true
-    (c.shared_slice_known-in-loop-k-1.given (3 * c.args.last + c.loop-k.k)).fits
+    (c.type_inv.follows (3 * c.args.last + c.loop-k.k)).fits
     (c.slice_known-in-loop-k-1.given c.loop-k.k).fits
     c.store_block-n.ensures)
 

@@ -1,6 +1,5 @@
 -- `add_free` fills the set with the words of the free zones.
 -- The invariant: the words of the free zones below z are in the set, and no others. The measure is the count of zones left.
-use Prim.Native.Nat.{◌-◌}
 use native.Mathlib.Omega.{arith}
 use Rattle.queue.proofs.WordSetLaws.{free_starts, free_more, free_past, free_done}
 use Rattle.queue.proofs.sets.add_free.Goals as goal
@@ -16,8 +15,8 @@ pub loop-z-preserved : goal.loop-z-preserved
 loop-z-preserved c =
     let inside = c.loop-z-test.true in
     elim c.if-position-z-eq0.branch [
-      then-position-z-eq0 w ↦ rw w.set-is (free_more c.loop-z.invariant inside w.if-position-z-eq0.true w.add_zone.auto.set w.add_zone.ensures)
-    | else-position-z-eq0 w ↦ rw w.set-is (free_past c.loop-z.invariant inside w.if-position-z-eq0.false)
+      | then-position-z-eq0 w ↦ rw w.set-is (free_more c.loop-z.invariant inside w.if-position-z-eq0.true w.add_zone.auto.set w.add_zone.ensures)
+      | else-position-z-eq0 w ↦ rw w.set-is (free_past c.loop-z.invariant inside w.if-position-z-eq0.false)
     ]
 
 pub returns : goal.returns

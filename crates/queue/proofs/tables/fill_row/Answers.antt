@@ -19,4 +19,4 @@ bounds-follows-block-2 c = simp length-set (omega arith)
 
 pub returns : goal.returns
 returns c =
-    row_filled _ _ _ _ c.requires.2 c.requires.1 (λ i. (c.shared_slice_known-1.given i).fits) c.with-own.type_inv c.with.ensures c.with-own.ensures c.minus.ensures
+    row_filled _ _ _ _ c.requires.2 c.requires.1 (λ i. (c.type_inv.starts i).fits) c.with-own.type_inv c.with.ensures c.with-own.ensures c.minus.ensures

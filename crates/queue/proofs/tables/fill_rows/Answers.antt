@@ -1,6 +1,6 @@
 -- `fill_rows` fills the row of each word with the words that come after it.
 -- The invariant: the rows of the words below w are filled. The measure is the count of words left.
-use Prim.Native.Nat.{◌-◌, ◌*◌}
+use Prim.Native.Nat.{◌*◌}
 use mathlib.Core.Path.{◌≡◌, ◌∙◌}
 use native.Mathlib.Omega.{arith}
 use Rattle.model.specs.Track.{rev}
@@ -19,12 +19,11 @@ fill_row-requires c =
     )
 
 pub loop-w-preserved : goal.loop-w-preserved
-loop-w-preserved c =
-    (
-      omega arith,
-      c.fill_row.auto.follows ∙ c.loop-w.invariant.1,
-      follows_more c.requires.0 c.requires.1 c.loop-w-test.true c.leaving.ensures c.loop-w.invariant.2 c.fill_row.ensures,
-    )
+loop-w-preserved c = (
+  omega arith,
+  c.fill_row.auto.follows ∙ c.loop-w.invariant.1,
+  follows_more c.requires.0 c.requires.1 c.loop-w-test.true c.leaving.ensures c.loop-w.invariant.2 c.fill_row.ensures,
+)
 
 pub returns : goal.returns
 returns c =

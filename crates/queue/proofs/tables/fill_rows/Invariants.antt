@@ -3,7 +3,6 @@
 use Prim.Native.Nat.{◌-◌, ◌*◌, ◌≤◌}
 use mathlib.Core.Path.{◌≡◌}
 use lib.ListN.{length}
-use Rattle.model.specs.Track.{rev}
 use Rattle.queue.specs.Follows.{Follows}
 use Rattle.queue.proofs.tables.fill_rows.Given as goal
 

@@ -1,6 +1,6 @@
 -- `fill_starts` puts each word into the row of the point where it starts.
 -- The invariant: the words below w are in their rows, and no others. The measure is the count of words left.
-use Prim.Native.Nat.{◌-◌, ◌*◌, ◌<◌}
+use Prim.Native.Nat.{◌*◌, ◌<◌}
 use mathlib.Core.Path.{◌≡◌}
 use native.Mathlib.Omega.{arith}
 use lib.ListN.{get_or}

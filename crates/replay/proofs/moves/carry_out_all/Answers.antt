@@ -1,6 +1,5 @@
 -- `replay::moves::carry_out_all` meets its contract: it gives the replay's answer.
 -- The invariant: what is left of the log, from the position as it is now, has the whole replay's answer. The measure is how many pairs are left.
-use Prim.Native.Nat.{◌-◌}
 use mathlib.Core.Path.{◌≡◌, sym, ◌∙◌}
 use native.Mathlib.Omega.{arith}
 use lib.ListN.{length}

@@ -1,8 +1,6 @@
 -- `replay::parsed::replay` meets its contract: 36, 37, or the answer of the moves on the sheet.
 -- Each return is a law of ReplayLaws, by the tests that led to it and the contracts of `show` and `carry_out_all`.
 use native.Mathlib.Omega.{arith}
-use lib.Seq.{length-take-le}
-use mathlib.Core.Path.{sym}
 use Rattle.replay.proofs.ReplayLaws.{short_given, odd_given, shown_ready, moves_given}
 use Rattle.replay.proofs.parsed.replay.Goals.{After-show}
 use Rattle.replay.proofs.parsed.replay.Goals as goal

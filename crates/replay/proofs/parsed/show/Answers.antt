@@ -1,6 +1,5 @@
 -- `replay::parsed::show` meets its contract: the position is on the sheet from its first word on.
 -- The invariant: the first z words are the position's. The measure is how many zones are left.
-use Prim.Native.Nat.{◌-◌}
 use native.Mathlib.Omega.{arith}
 use Rattle.replay.proofs.Showing.{show_begins, show_long, show_on, show_ended}
 use Rattle.replay.proofs.parsed.show.Goals as goal

@@ -1,6 +1,5 @@
 -- `writer::draft::entries` meets its contract: the entries of all zones stand one after another.
 -- The invariant: those of the first z zones are. The measure is how many zones are left.
-use Prim.Native.Nat.{◌-◌}
 use Rattle.writer.proofs.Drafting.{drafting_starts, draft_long, entry_room, drafting_on, drafting_ends}
 use Rattle.writer.proofs.draft.entries.Goals as goal
 

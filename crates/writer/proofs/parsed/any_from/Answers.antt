@@ -1,9 +1,8 @@
 -- `writer::parsed::any_from` meets its contract: whether some word of the sheet is so high.
 -- The invariant: none of the first z words is. The measure is how many words are left.
-use Prim.Native.Nat.{◌-◌}
 use borrow.Author.Tests.{lt-leb}
 use Rattle.board.proofs.Turns.{none_first, none_next}
-use Rattle.writer.proofs.HighWords.{high, high_met, none_high}
+use Rattle.writer.proofs.HighWords.{high_met, none_high}
 use Rattle.writer.proofs.parsed.any_from.Goals as goal
 
 pub loop-z-init : goal.loop-z-init

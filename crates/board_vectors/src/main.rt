@@ -6,54 +6,52 @@
 
 ghost use Rattle.std.specs.Prelude.{◌≡◌, ◌<◌, length};
 
-fn item(n: u64) {
-    io::write_all(1, b" ");
-    io::print_decimal(1, n);
+use std::io;
+use std::io::Read;
+
+fn item(rt: &impl Print, n: u64) -> io::Result<()> {
+    print!(rt; " {n}")
 }
 
-fn say(bytes: &[u8]) {
+fn say(rt: &impl Print, bytes: &[u8]) -> io::Result<()> {
     let board = board::read(bytes);
-    item(board.number as u64);
-    io::write_all(1, b"\n");
+    item(rt, board.number as u64)?;
+    println!(rt; "")
 }
 
-fn say_ends(ends: &[usize], zones: usize) {
-    io::write_all(1, b" ends");
-    let mut w = 0;
-    while w < ends.len() {
+fn say_ends(rt: &impl Print, ends: &[usize], zones: usize) -> io::Result<()> {
+    print!(rt; " ends")?;
+    for (w, end) in ends.iter().enumerate() {
         if w / 2 < zones {
-            item(ends[w] as u64);
+            item(rt, *end as u64)?;
         }
-        w += 1;
     }
+    Ok(())
 }
 
-fn say_position(position: &[u32], zones: usize) {
-    io::write_all(1, b" position");
-    let mut z = 0;
-    while z < position.len() {
+fn say_position(rt: &impl Print, position: &[u32], zones: usize) -> io::Result<()> {
+    print!(rt; " position")?;
+    for (z, word) in position.iter().enumerate() {
         if z < zones {
-            item(position[z] as u64);
+            item(rt, *word as u64)?;
         }
-        z += 1;
     }
+    Ok(())
 }
 
-fn say_all(bytes: &[u8]) {
+fn say_all(rt: &impl Print, bytes: &[u8]) -> io::Result<()> {
     let board = board::read(bytes);
     let head = board.head;
-    io::write_all(1, b" points");
-    item(head.points as u64);
-    io::write_all(1, b" home");
-    item(head.home as u64);
+    print!(rt; " points")?;
+    item(rt, head.points as u64)?;
+    print!(rt; " home")?;
+    item(rt, head.home as u64)?;
     let zones = head.zones;
-    io::write_all(1, b" zones");
-    item(zones as u64);
-    let ends = board.ends;
-    say_ends(&ends, zones);
-    let position = board.position;
-    say_position(&position, zones);
-    io::write_all(1, b"\n");
+    print!(rt; " zones")?;
+    item(rt, zones as u64)?;
+    say_ends(rt, &board.ends, zones)?;
+    say_position(rt, &board.position, zones)?;
+    println!(rt; "")
 }
 
 // The value of the hexadecimal digit at i.
@@ -85,19 +83,19 @@ fn first(bytes: &[u8], n: usize) -> &[u8] {
 }
 
 // Each line of text; its board is put together in bytes.
-fn vectors(text: &[u8], bytes: &mut [u8]) {
+fn vectors(rt: &impl Print, text: &[u8], bytes: &mut [u8]) -> io::Result<()> {
     let mut n = 0;
     let mut i = 0;
     while i < text.len() {
         let c = text[i];
         if c == b'\n' {
-            say(first(bytes, n));
+            say(rt, first(bytes, n))?;
             n = 0;
             i += 1;
             continue;
         }
         if c == b'=' {
-            say_all(first(bytes, n));
+            say_all(rt, first(bytes, n))?;
             n = 0;
             i += 2;
             continue;
@@ -108,9 +106,10 @@ fn vectors(text: &[u8], bytes: &mut [u8]) {
             i += 3;
             continue;
         }
-        io::write_all(1, &text[i..i + 1]);
+        rt.write_all(&text[i..i + 1])?;
         i += 1;
     }
+    Ok(())
 }
 
 fn longest() -> [u8; 70000]
@@ -120,25 +119,25 @@ fn longest() -> [u8; 70000]
 }
 
 // 70,000 zeros; then T's head with the greatest L, whole and one byte longer.
-fn long_inputs(bytes: &mut [u8]) {
-    io::write_all(1, b"70000-bytes");
-    say(bytes);
+fn long_inputs(rt: &impl Print, bytes: &mut [u8]) -> io::Result<()> {
+    print!(rt; "70000-bytes")?;
+    say(rt, bytes)?;
     put(bytes, 0, 255);
     put(bytes, 1, 255);
     put(bytes, 2, 1);
     put(bytes, 3, 2);
     put(bytes, 5, 2);
-    io::write_all(1, b"65537-bytes");
-    say(first(bytes, 65537));
-    io::write_all(1, b"65538-bytes");
-    say(first(bytes, 65538));
+    print!(rt; "65537-bytes")?;
+    say(rt, first(bytes, 65537))?;
+    print!(rt; "65538-bytes")?;
+    say(rt, first(bytes, 65538))
 }
 
-fn main() {
-    let mut text = io::large_buffer();
-    let n = io::read_full(0, &mut text);
+fn main(rt: HostRuntime) -> io::Result<()> {
+    let mut text = Vec::new(rt.alloc());
+    rt.reader().take(65536).read_to_end(&mut text)?;
     let mut board = [0; 512];
-    vectors(&text[..n], &mut board);
+    vectors(&rt, &text, &mut board)?;
     let mut long = longest();
-    long_inputs(&mut long);
+    long_inputs(&rt, &mut long)
 }

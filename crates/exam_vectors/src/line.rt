@@ -2,6 +2,7 @@
 ghost use Rattle.std.specs.Prelude.{◌<◌};
 
 use crate::say;
+use std::io;
 
 // What was read of a line: the part that it is in (0 name, 1 operation, 2 numbers, 3 bytes), the operation's first letter, 0 before it is read,
 // and how many numbers and bytes there are so far.
@@ -65,9 +66,8 @@ fn more_bytes(bytes: &mut [u8], n: usize, c: u8) -> usize {
     n
 }
 
-fn echo(c: u8) {
-    let text = [c];
-    io::write_all(1, &text);
+fn echo(rt: &impl Print, c: u8) -> io::Result<()> {
+    rt.write_all(&[c])
 }
 
 // The part that this character is in: the name and the operation end with a space, the numbers with a colon.
@@ -99,61 +99,70 @@ fn letter_of(letter: u8, part: u8, c: u8) -> u8 {
 }
 
 // One more character of a line. The name and the operation are written out as they come.
-fn read_on(line: Line, c: u8, bytes: &mut [u8], numbers: &mut [u16]) -> Line {
+fn read_on(
+    rt: &impl Print,
+    line: Line,
+    c: u8,
+    bytes: &mut [u8],
+    numbers: &mut [u16],
+) -> io::Result<Line> {
     let part = part_of(line.part, c);
     if part == 3 {
-        return Line {
+        return Ok(Line {
             part: 3,
             letter: line.letter,
             numbers: line.numbers,
             bytes: more_bytes(bytes, line.bytes, c),
-        };
+        });
     }
     if part == 2 {
-        return Line {
+        return Ok(Line {
             part: 2,
             letter: line.letter,
             numbers: more_numbers(numbers, line.numbers, c),
             bytes: 0,
-        };
+        });
     }
-    echo(c);
-    Line {
+    echo(rt, c)?;
+    Ok(Line {
         part: part,
         letter: letter_of(line.letter, part, c),
         numbers: 0,
         bytes: 0,
-    }
+    })
 }
 
 // The end of a line: it is answered, and the next begins.
-fn answer(line: Line, bytes: &[u8], numbers: &[u16]) -> Line {
+fn answer(rt: &impl Print, line: Line, bytes: &[u8], numbers: &[u16]) -> io::Result<Line> {
     let n = say::bytes_in(line.bytes, bytes);
     let m = say::numbers_in(line.numbers, numbers);
-    say::run(line.letter, &bytes[..n], &numbers[..m]);
-    Line {
+    say::run(rt, line.letter, &bytes[..n], &numbers[..m])?;
+    Ok(Line {
         part: 0,
         letter: 0,
         numbers: 0,
         bytes: 0,
-    }
+    })
 }
 
-pub fn answer_all(text: &[u8], bytes: &mut [u8], numbers: &mut [u16]) {
+pub fn answer_all(
+    rt: &impl Print,
+    text: &[u8],
+    bytes: &mut [u8],
+    numbers: &mut [u16],
+) -> io::Result<()> {
     let mut line = Line {
         part: 0,
         letter: 0,
         numbers: 0,
         bytes: 0,
     };
-    let mut i = 0;
-    while i < text.len() {
-        let c = text[i];
-        i += 1;
-        if c == b'\n' {
-            line = answer(line, bytes, numbers);
-            continue;
-        }
-        line = read_on(line, c, bytes, numbers);
+    for c in text {
+        line = if *c == b'\n' {
+            answer(rt, line, bytes, numbers)?
+        } else {
+            read_on(rt, line, *c, bytes, numbers)?
+        };
     }
+    Ok(())
 }

@@ -9,10 +9,13 @@ mod copy;
 mod line;
 mod say;
 
-fn main() {
-    let mut text = io::large_buffer();
-    let n = io::read_full(0, &mut text);
+use std::io;
+use std::io::Read;
+
+fn main(rt: HostRuntime) -> io::Result<()> {
+    let mut text = Vec::new(rt.alloc());
+    rt.reader().take(65536).read_to_end(&mut text)?;
     let mut bytes = [0; 512];
     let mut numbers = [0; 32];
-    line::answer_all(&text[..n], &mut bytes, &mut numbers);
+    line::answer_all(&rt, &text, &mut bytes, &mut numbers)
 }

@@ -1,86 +1,80 @@
 // The operations, and what they give written out.
-ghost use Rattle.io.specs.Counts.{IsPrefixLen};
+ghost use Rattle.std.specs.Prelude.{◌≡◌, ◌≤◌, min, length};
 
 use crate::copy::run_write;
+use std::io;
 
-pub fn item(n: u64) {
-    io::write_all(1, b" ");
-    io::print_decimal(1, n);
+pub fn item(rt: &impl Print, n: u64) -> io::Result<()> {
+    print!(rt; " {n}")
 }
 
-fn say_words(words: &[u16]) {
-    let mut i = 0;
-    while i < words.len() {
-        item(words[i] as u64);
-        i += 1;
+fn say_words(rt: &impl Print, words: &[u16]) -> io::Result<()> {
+    for word in words {
+        item(rt, *word as u64)?;
     }
+    Ok(())
 }
 
-fn say_plan(plan: &[u16]) {
-    io::write_all(1, b" plan");
-    say_words(plan);
+fn say_plan(rt: &impl Print, plan: &[u16]) -> io::Result<()> {
+    print!(rt; " plan")?;
+    say_words(rt, plan)
 }
 
-fn say_list(list: &[u16]) {
-    io::write_all(1, b" list");
-    say_words(list);
+fn say_list(rt: &impl Print, list: &[u16]) -> io::Result<()> {
+    print!(rt; " list")?;
+    say_words(rt, list)
 }
 
-fn say_key(bytes: &[u8], plan: &mut [u16], list: &mut [u16]) {
+fn say_key(rt: &impl Print, bytes: &[u8], plan: &mut [u16], list: &mut [u16]) -> io::Result<()> {
     let key = exam::key(bytes, plan, list);
-    item(key.verdict as u64);
-    io::write_all(1, b" planned");
-    item(key.planned as u64);
-    io::write_all(1, b" listed");
-    item(key.listed as u64);
-    io::write_all(1, b" searched");
-    item(key.searched as u64);
-    say_plan(plan);
-    say_list(list);
+    item(rt, key.verdict as u64)?;
+    print!(rt; " planned")?;
+    item(rt, key.planned as u64)?;
+    print!(rt; " listed")?;
+    item(rt, key.listed as u64)?;
+    print!(rt; " searched")?;
+    item(rt, key.searched as u64)?;
+    say_plan(rt, plan)?;
+    say_list(rt, list)
 }
 
-fn say_collapse(bytes: &[u8], list: &mut [u16]) {
+fn say_collapse(rt: &impl Print, bytes: &[u8], list: &mut [u16]) -> io::Result<()> {
     let left = exam::collapse(bytes, list);
-    item(left.number as u64);
-    io::write_all(1, b" listed");
-    item(left.listed as u64);
-    say_list(list);
+    item(rt, left.number as u64)?;
+    print!(rt; " listed")?;
+    item(rt, left.listed as u64)?;
+    say_list(rt, list)
 }
 
-fn say_sheet(sheet: &[u32]) {
-    let mut z = 0;
-    while z < sheet.len() {
-        item(sheet[z] as u64);
-        z += 1;
+fn say_sheet(rt: &impl Print, sheet: &[u32]) -> io::Result<()> {
+    for word in sheet {
+        item(rt, *word as u64)?;
     }
+    Ok(())
 }
 
-fn say_replay(bytes: &[u8], log: &[u16], sheet: &mut [u32]) {
+fn say_replay(rt: &impl Print, bytes: &[u8], log: &[u16], sheet: &mut [u32]) -> io::Result<()> {
     let replay = replay::replay(bytes, log, sheet);
-    item(replay.number as u64);
-    io::write_all(1, b" moves");
-    item(replay.moves as u64);
-    io::write_all(1, b" sheet");
-    say_sheet(sheet);
+    item(rt, replay.number as u64)?;
+    print!(rt; " moves")?;
+    item(rt, replay.moves as u64)?;
+    print!(rt; " sheet")?;
+    say_sheet(rt, sheet)
 }
 
 // n of these numbers, or all where there are fewer.
 pub fn numbers_in(n: usize, numbers: &[u16]) -> usize
-    ensures { IsPrefixLen result numbers.now }
+    ensures within { result ≤ length numbers.now }
+    ensures value { result ≡ min n (length numbers.now) }
 {
-    if n < numbers.len() {
-        return n;
-    }
-    numbers.len()
+    n.min(numbers.len())
 }
 
 pub fn bytes_in(n: usize, bytes: &[u8]) -> usize
-    ensures { IsPrefixLen result bytes.now }
+    ensures within { result ≤ length bytes.now }
+    ensures value { result ≡ min n (length bytes.now) }
 {
-    if n < bytes.len() {
-        return n;
-    }
-    bytes.len()
+    n.min(bytes.len())
 }
 
 pub fn nth(numbers: &[u16], i: usize) -> usize {
@@ -90,38 +84,38 @@ pub fn nth(numbers: &[u16], i: usize) -> usize {
     0
 }
 
-fn run_key(bytes: &[u8], numbers: &[u16]) {
+fn run_key(rt: &impl Print, bytes: &[u8], numbers: &[u16]) -> io::Result<()> {
     let mut plan = [60000u16; 40];
     let mut list = [60000u16; 4];
     let plan_room = numbers_in(nth(numbers, 0), &plan);
     let list_room = numbers_in(nth(numbers, 1), &list);
-    say_key(bytes, &mut plan[..plan_room], &mut list[..list_room]);
+    say_key(rt, bytes, &mut plan[..plan_room], &mut list[..list_room])
 }
 
-fn run_collapse(bytes: &[u8], numbers: &[u16]) {
+fn run_collapse(rt: &impl Print, bytes: &[u8], numbers: &[u16]) -> io::Result<()> {
     let mut list = [60000u16; 4];
     let list_room = numbers_in(nth(numbers, 0), &list);
-    say_collapse(bytes, &mut list[..list_room]);
+    say_collapse(rt, bytes, &mut list[..list_room])
 }
 
-fn run_replay(bytes: &[u8], numbers: &[u16]) {
+fn run_replay(rt: &impl Print, bytes: &[u8], numbers: &[u16]) -> io::Result<()> {
     if numbers.len() == 0 {
-        return;
+        return Ok(());
     }
     let mut sheet = [60000u32; 4];
     // The vectors lend 0 to 4 words.
     let room = nth(numbers, 0) % 5;
-    say_replay(bytes, &numbers[1..], &mut sheet[..room]);
+    say_replay(rt, bytes, &numbers[1..], &mut sheet[..room])
 }
 
 // The operation by its first letter: `key`, `collapse`, `replay`, `write` or `mark`.
-pub fn run(letter: u8, bytes: &[u8], numbers: &[u16]) {
+pub fn run(rt: &impl Print, letter: u8, bytes: &[u8], numbers: &[u16]) -> io::Result<()> {
     match letter {
-        b'k' => run_key(bytes, numbers),
-        b'c' => run_collapse(bytes, numbers),
-        b'r' => run_replay(bytes, numbers),
-        b'w' => run_write(bytes, numbers),
-        _ => item(exam::mark(bytes, numbers) as u64),
-    }
-    io::write_all(1, b"\n");
+        b'k' => run_key(rt, bytes, numbers),
+        b'c' => run_collapse(rt, bytes, numbers),
+        b'r' => run_replay(rt, bytes, numbers),
+        b'w' => run_write(rt, bytes, numbers),
+        _ => item(rt, exam::mark(bytes, numbers) as u64),
+    }?;
+    println!(rt; "")
 }

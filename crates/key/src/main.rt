@@ -1,16 +1,34 @@
 // Reads a board from standard input and prints its key: what `text::key_text` gives for the bytes that were read, and nothing else.
-// A board has at most 486 bytes; of a longer input 487 are read, which tell that it is too long. A page that isn't written whole is said on
-// standard error.
+// A read or a write that fails ends the program with status 1 and is said on standard error.
 #![tactic(auto)]
 
-use libc::{STDIN_FILENO, STDOUT_FILENO};
+ghost use Rattle.std.specs.Prelude.{IfSome, OnOk};
+ghost use Rattle.std.specs.Io.KnownBytes.{Appends};
+ghost use Rattle.page.specs.Page.{page_of};
 
-fn main() {
-    let mut board = [0u8; 487];
-    let read = io::read_full(STDIN_FILENO, &mut board);
+use anyhow::{Context, Result};
+use std::alloc::Global;
+use std::io;
+use std::io::{Read, Write};
+
+// Adds to the output the page of the input's bytes. A board has at most 486; of a longer input 487 are read, which tell that it is too long.
+fn print_key<R: Read + Drop, W: Write>(alloc: Global, input: R, output: &mut W) -> Result<()>
+    ensures { OnOk result (IfSome (R.remaining input) (λ bytes.
+        Appends (W.contents output.old) (W.contents output.new) (page_of bytes))) }
+{
+    let mut board = Vec::new(alloc);
+    input
+        .take(487)
+        .read_to_end(&mut board)
+        .context("the board isn't read")?;
     let mut page = [0u8; 75511];
-    let length = text::key_text(&board[..read], &mut page);
-    if !io::write_all(STDOUT_FILENO, &page[..length]) {
-        os::fail(b"key: the page isn't written");
-    }
+    let length = text::key_text(&board, &mut page);
+    output
+        .write_all(&page[..length])
+        .context("the page isn't written")?;
+    Ok(())
+}
+
+fn main(rt: HostRuntime) -> Result<()> {
+    print_key(rt.alloc(), rt.reader(), &mut io::writer(&rt))
 }

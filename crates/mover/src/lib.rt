@@ -78,7 +78,8 @@ pub fn carry_out(
     let heading = (position[zone] % 2) as usize;
     let point = word::leaving(ends, 2 * zone + heading);
     if entered == HOME {
-        if point != head.home {
+        let elsewhere = point != head.home;
+        if elsewhere {
             return false;
         }
         position[zone] = 0;

@@ -53,7 +53,8 @@ fn count_starts(zones: usize, ends: &[usize], position: &[u32], counts: &mut [us
 {
     let mut z = 0;
     while z < zones {
-        if position[z] == 0 {
+        let free = position[z] == 0;
+        if free {
             let point = ends[2 * z];
             counts[point] = counts[point] + 1;
         }

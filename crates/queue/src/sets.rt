@@ -26,7 +26,8 @@ pub fn add_free(position: &[u32], set: &mut [u64])
 {
     let mut z = 0;
     while z < position.len() {
-        if position[z] == 0 {
+        let free = position[z] == 0;
+        if free {
             add_zone(z, set);
         }
         z += 1;

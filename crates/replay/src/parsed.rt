@@ -33,13 +33,15 @@ pub fn replay(
     ensures { ReplayGiven (replay_in (track_of head ends.now) position.now log.now (length sheet.old)) sheet.old result.number result.moves sheet.new }
 {
     let zones = head.zones;
-    if sheet.len() < zones {
+    let short = sheet.len() < zones;
+    if short {
         return ReplayResult {
             number: 36,
             moves: 0,
         };
     }
-    if log.len() % 2 != 0 {
+    let odd = log.len() % 2 != 0;
+    if odd {
         return ReplayResult {
             number: 37,
             moves: 0,

@@ -19,11 +19,11 @@ returns-then-zone-position c = missing_stays _ _ c.if-number-eq0.false c.zone_fo
 
 pub returns-then-entered-eq-HOME : goal.returns-then-entered-eq-HOME
 returns-then-entered-eq-HOME c =
-    home_goes _ c.requires.bounded.laid.once (out (goal.at.returns-then-entered-eq-HOME c).Else-zone-position) c.leaving-point.ensures c.if-entered-eq-HOME.true c.if-point-head.false
+    home_goes _ c.requires.bounded.laid.once (out (goal.at.returns-then-entered-eq-HOME c).Else-zone-position) c.leaving-point.ensures c.if-entered-eq-HOME.true c.if-elsewhere.false
 
-pub returns-then-point-head : goal.returns-then-point-head
-returns-then-point-head c =
-    home_stays _ c.requires.bounded.laid.once (out (goal.at.returns-then-point-head c).Else-zone-position) c.leaving-point.ensures c.if-entered-eq-HOME.true c.if-point-head.true
+pub returns-then-elsewhere : goal.returns-then-elsewhere
+returns-then-elsewhere c =
+    home_stays _ c.requires.bounded.laid.once (out (goal.at.returns-then-elsewhere c).Else-zone-position) c.leaving-point.ensures c.if-entered-eq-HOME.true c.if-elsewhere.true
 
 pub returns-then-not-may_go_from : goal.returns-then-not-may_go_from
 returns-then-not-may_go_from c =

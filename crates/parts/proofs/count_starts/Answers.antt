@@ -8,7 +8,7 @@ use lib.ListN.{length}
 use Rattle.model.specs.Position.{at}
 use Rattle.parts.proofs.StartLaws.{starts_none, starts_held, starts_free, starts_most}
 use Rattle.parts.proofs.count_starts.Goals as goal
-use Rattle.parts.proofs.count_starts.Goals.{then-position-z-eq0, else-position-z-eq0}
+use Rattle.parts.proofs.count_starts.Goals.{then-free, else-free}
 
 pub loop-z-init : goal.loop-z-init
 loop-z-init c = (omega arith, rw c.requires.1 (starts_none _ _))
@@ -25,12 +25,12 @@ pub overflow_add-counts : goal.overflow_add-counts
 overflow_add-counts c =
     omega (arith, starts_most c.loop-z.invariant.1 (c.requires.0.inside (2 * c.loop-z.z) (omega arith)), c.ranges.zones)
 
-pub offset_bounds-counts-point-then-position-z-eq0 : goal.offset_bounds-counts-point-then-position-z-eq0
-offset_bounds-counts-point-then-position-z-eq0 c =
+pub offset_bounds-counts-point-then-free : goal.offset_bounds-counts-point-then-free
+offset_bounds-counts-point-then-free c =
     omega (arith, c.requires.0.inside (2 * c.loop-z.z) (omega arith))
 
-pub bounds-counts-point-then-position-z-eq0 : goal.bounds-counts-point-then-position-z-eq0
-bounds-counts-point-then-position-z-eq0 c =
+pub bounds-counts-point-then-free : goal.bounds-counts-point-then-free
+bounds-counts-point-then-free c =
     omega (arith, c.requires.0.inside (2 * c.loop-z.z) (omega arith), c.loop-z.invariant.1.long)
 
 pub loop-z-preserved : goal.loop-z-preserved
@@ -38,9 +38,9 @@ loop-z-preserved c =
     let z = c.loop-z.z in
     let p = c.args.position.now in (
       omega arith,
-      elim c.if-position-z-eq0.branch [
-        | then-position-z-eq0 k ↦ rw k.counts-is (starts_free c.loop-z.invariant.1 (eq-eqb (at p z) 0 k.if-position-z-eq0.true) (c.requires.0.inside (2 * z) (omega arith)))
-        | else-position-z-eq0 k ↦ rw k.counts-is (starts_held c.loop-z.invariant.1 (ne_eqb (at p z) 0 k.if-position-z-eq0.false))
+      elim c.if-free.branch [
+        | then-free k ↦ rw k.counts-is (starts_free c.loop-z.invariant.1 (eq-eqb (at p z) 0 k.if-free.true) (c.requires.0.inside (2 * z) (omega arith)))
+        | else-free k ↦ rw k.counts-is (starts_held c.loop-z.invariant.1 (ne_eqb (at p z) 0 k.if-free.false))
       ],
     )
 

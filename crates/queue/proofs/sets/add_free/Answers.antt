@@ -3,7 +3,7 @@
 use native.Mathlib.Omega.{arith}
 use Rattle.queue.proofs.WordSetLaws.{free_starts, free_more, free_past, free_done}
 use Rattle.queue.proofs.sets.add_free.Goals as goal
-use Rattle.queue.proofs.sets.add_free.Goals.{then-position-z-eq0, else-position-z-eq0}
+use Rattle.queue.proofs.sets.add_free.Goals.{then-free, else-free}
 
 pub loop-z-init : goal.loop-z-init
 loop-z-init c = free_starts _ _ c.requires
@@ -14,9 +14,9 @@ add_zone-requires c = let inv = c.loop-z.invariant in (omega (arith, inv.few, c.
 pub loop-z-preserved : goal.loop-z-preserved
 loop-z-preserved c =
     let inside = c.loop-z-test.true in
-    elim c.if-position-z-eq0.branch [
-      | then-position-z-eq0 w ↦ rw w.set-is (free_more c.loop-z.invariant inside w.if-position-z-eq0.true w.add_zone.auto.set w.add_zone.ensures)
-      | else-position-z-eq0 w ↦ rw w.set-is (free_past c.loop-z.invariant inside w.if-position-z-eq0.false)
+    elim c.if-free.branch [
+      | then-free w ↦ rw w.set-is (free_more c.loop-z.invariant inside w.if-free.true w.add_zone.auto.set w.add_zone.ensures)
+      | else-free w ↦ rw w.set-is (free_past c.loop-z.invariant inside w.if-free.false)
     ]
 
 pub returns : goal.returns

@@ -15,7 +15,8 @@ fn mark_claim(head: Head, ends: &[usize], position: &mut [u32], sheet: &[u16]) -
     let mut list = [0u16; 96];
     let left = collapse(head, ends, position, &mut list);
     let listed = left.listed;
-    if listed == 0 {
+    let nobody = listed == 0;
+    if nobody {
         return 35;
     }
     if marker::same_claim(&list, listed, sheet, 1) {

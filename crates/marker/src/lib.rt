@@ -80,7 +80,8 @@ pub fn same_claim(list: &[u16], count: usize, sheet: &[u16], from: usize) -> boo
     while i < count {
         let word = sheet[from + i];
         let carrier = list[i];
-        if word != carrier {
+        let differs = word != carrier;
+        if differs {
             return false;
         }
         i += 1;

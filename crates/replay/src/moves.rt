@@ -18,7 +18,9 @@ pub fn carry_out_all(head: Head, ends: &[usize], position: &mut [u32], log: &[u1
     while done < pairs {
         let carrier = log[2 * done];
         let entered = log[2 * done + 1];
-        if !mover::carry_out(head, ends, position, carrier, entered) {
+        let allowed = mover::carry_out(head, ends, position, carrier, entered);
+        let stops = !allowed;
+        if stops {
             return ReplayResult {
                 number: 38,
                 moves: done,

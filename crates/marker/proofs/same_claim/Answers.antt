@@ -12,11 +12,11 @@ returns-then-sheet-from c =
 pub loop-i-init : goal.loop-i-init
 loop-i-init c = compare_begins _ _ _ _ c.requires.1 c.if-sheet-from.false
 
-pub returns-then-word-carrier : goal.returns-then-word-carrier
-returns-then-word-carrier c = sym (numbers_differ c.loop-i.invariant c.requires.0 c.loop-i-test.true c.if-word-carrier.true)
+pub returns-then-differs : goal.returns-then-differs
+returns-then-differs c = sym (numbers_differ c.loop-i.invariant c.requires.0 c.loop-i-test.true c.if-differs.true)
 
 pub loop-i-preserved : goal.loop-i-preserved
-loop-i-preserved c = compare_on c.loop-i.invariant c.requires.0 c.loop-i-test.true c.if-word-carrier.false
+loop-i-preserved c = compare_on c.loop-i.invariant c.requires.0 c.loop-i-test.true c.if-differs.false
 
 pub returns : goal.returns
 returns c = sym (compare_ended c.loop-i.invariant c.requires.0 c.loop-i-test.false)

@@ -12,9 +12,9 @@ use Rattle.exam.proofs.sheet.mark_claim.Goals as goal
 ready : (c : After-collapse-left) → Ready (track_of c.args.head c.args.ends.now) c.args.position.now
 ready c = c.requires.0
 
-pub returns-then-listed-eq0 : goal.returns-then-listed-eq0
-returns-then-listed-eq0 c =
-    claim_false (ready (goal.at.returns-then-listed-eq0 c).After-collapse-left) c.collapse-left.ensures.collapse_given (few_out (ready (goal.at.returns-then-listed-eq0 c).After-collapse-left)) _ c.if-listed-eq0.true
+pub returns-then-nobody : goal.returns-then-nobody
+returns-then-nobody c =
+    claim_false (ready (goal.at.returns-then-nobody c).After-collapse-left) c.collapse-left.ensures.collapse_given (few_out (ready (goal.at.returns-then-nobody c).After-collapse-left)) _ c.if-nobody.true
 
 pub same_claim-requires : goal.same_claim-requires
 same_claim-requires c =
@@ -22,8 +22,8 @@ same_claim-requires c =
 
 pub returns-then-same_claim : goal.returns-then-same_claim
 returns-then-same_claim c =
-    claim_marked (ready (goal.at.returns-then-same_claim c).After-collapse-left) c.collapse-left.ensures.collapse_given (few_out (ready (goal.at.returns-then-same_claim c).After-collapse-left)) _ c.if-listed-eq0.false c.same_claim.ensures c.if-same_claim.true
+    claim_marked (ready (goal.at.returns-then-same_claim c).After-collapse-left) c.collapse-left.ensures.collapse_given (few_out (ready (goal.at.returns-then-same_claim c).After-collapse-left)) _ c.if-nobody.false c.same_claim.ensures c.if-same_claim.true
 
 pub returns : goal.returns
 returns c =
-    claim_marked (ready (goal.at.returns c).After-collapse-left) c.collapse-left.ensures.collapse_given (few_out (ready (goal.at.returns c).After-collapse-left)) _ c.if-listed-eq0.false c.same_claim.ensures c.if-same_claim.false
+    claim_marked (ready (goal.at.returns c).After-collapse-left) c.collapse-left.ensures.collapse_given (few_out (ready (goal.at.returns c).After-collapse-left)) _ c.if-nobody.false c.same_claim.ensures c.if-same_claim.false

@@ -14,19 +14,19 @@ as_long c = c.loop-done.invariant.ready.bounded.laid.each ∙ sym c.requires.bou
 pub loop-done-init : goal.loop-done-init
 loop-done-init c = begins _ c.requires
 
-pub carry_out-requires : goal.carry_out-requires
-carry_out-requires c = c.loop-done.invariant.ready
+pub carry_out-allowed-requires : goal.carry_out-allowed-requires
+carry_out-allowed-requires c = c.loop-done.invariant.ready
 
-pub shape_of-position-then-not-carry_out : goal.shape_of-position-then-not-carry_out
-shape_of-position-then-not-carry_out c = c.carry_out.auto.position ∙ as_long (goal.at.shape_of-position-then-not-carry_out c).At-loop-done
+pub shape_of-position-then-stops : goal.shape_of-position-then-stops
+shape_of-position-then-stops c = c.carry_out-allowed.auto.position ∙ as_long (goal.at.shape_of-position-then-stops c).At-loop-done
 
 pub loop-done-preserved : goal.loop-done-preserved
 loop-done-preserved c =
-    goes_on_lem c.loop-done.invariant (omega arith) c.carry_out.ensures c.if-not-carry_out.false
+    goes_on_lem c.loop-done.invariant (omega arith) c.carry_out-allowed.ensures c.if-stops.false
 
-pub returns-then-not-carry_out : goal.returns-then-not-carry_out
-returns-then-not-carry_out c =
-    stops c.loop-done.invariant (omega arith) c.carry_out.ensures c.if-not-carry_out.true
+pub returns-then-stops : goal.returns-then-stops
+returns-then-stops c =
+    stops c.loop-done.invariant (omega arith) c.carry_out-allowed.ensures c.if-stops.true
 
 pub shape_of-position : goal.shape_of-position
 shape_of-position c = as_long (goal.at.shape_of-position c).At-loop-done

@@ -14,13 +14,13 @@ use Rattle.model.specs.Track.{Track, zone_of, heading_of, start}
 use Rattle.model.specs.Position.{Position, at, carrier_of}
 use Rattle.model.specs.Layout.{stride, entry_from, heading_place, high_byte, low_byte}
 use Rattle.model.specs.Reading.{byte, wide, zone_from, version_said, zones_said, end_a, end_b, carrier_in, heading_in, end_said, track_said, position_said}
-use Rattle.model.proofs.ListLaws.{length_below, get_d_below}
-use Rattle.model.proofs.PlaceLaws.{get_d_map_below}
+use Rattle.model.proofs.ListLaws.{length_below, get_or_below}
+use Rattle.model.proofs.PlaceLaws.{get_or_map_below}
 use Rattle.model.proofs.WordLaws.{zone_below}
 use Rattle.model.proofs.LayoutLaws.{stride_least}
 use Rattle.model.proofs.ReadingLaws.{length_position, at_said, said_a, said_b, heading_cases, carrier_wide, carrier_narrow}
 use Rattle.faircopy.specs.BoardBytes.{head_bytes, entry_byte, entry_bytes, board_bytes}
-use Rattle.faircopy.proofs.Entries.{length_entries, get_d_entries}
+use Rattle.faircopy.proofs.Entries.{length_entries, get_or_entries}
 
 -- the carriers fit into what an entry has for them
 abbrev pub CarriersFit : Bool → Position → Type 0
@@ -89,9 +89,9 @@ module _ (v : Bool) (t : Track) (p : Position) where
   at_place z k inside small =
       ap (byte (board_bytes v t p)) (let q : entry_from v z + k ≡ 6 + (stride v * z + k) = omega arith in q) ∙
       get_or-append-add (head_bytes v t.points t.home t.zones) (flatten (map (entry_bytes v t p) (numbers_below t.zones))) (stride v * z + k) 0 ∙
-      get_d_entries (entry_bytes v t p) (stride v) length_entry (numbers_below t.zones) z k (omega (arith, length_below t.zones)) small ∙
-      ap (λ (y : ℕ). get_or (entry_bytes v t p y) k 0) (get_d_below t.zones z 0 inside) ∙
-      get_d_map_below (entry_byte v t p z) (stride v) k 0 small
+      get_or_entries (entry_bytes v t p) (stride v) length_entry (numbers_below t.zones) z k (omega (arith, length_below t.zones)) small ∙
+      ap (λ (y : ℕ). get_or (entry_bytes v t p y) k 0) (get_or_below t.zones z 0 inside) ∙
+      get_or_map_below (entry_byte v t p z) (stride v) k 0 small
 
   -- the same from where the reader looks
   place_read : (z k : ℕ) → z < t.zones → k < stride v → byte (board_bytes v t p) (zone_from (board_bytes v t p) z + k) ≡ entry_byte v t p z k
@@ -147,7 +147,7 @@ module _ (v : Bool) (t : Track) (p : Position) where
       ends_read : map (end_said (board_bytes v t p)) (numbers_below (2 * t.zones)) ≡ t.ends
       ends_read =
           ext_get_or 0 (map (end_said (board_bytes v t p)) (numbers_below (2 * t.zones))) t.ends (as_long ∙ sym ends_count)
-          (λ w h. let below : w < 2 * t.zones = subst (λ (n : ℕ). w < n) as_long h in get_d_map_below (end_said (board_bytes v t p)) (2 * t.zones) w 0 below ∙ end_read w below)
+          (λ w h. let below : w < 2 * t.zones = subst (λ (n : ℕ). w < n) as_long h in get_or_map_below (end_said (board_bytes v t p)) (2 * t.zones) w 0 below ∙ end_read w below)
 
   pub position_read : length p ≡ t.zones → CarriersFit v p → position_said (board_bytes v t p) ≡ p
   position_read each fits =

@@ -16,7 +16,7 @@ use Rattle.model.specs.Position.{Position, at, carrier_of}
 use Rattle.model.specs.Layout.{stride, entry_from, end_place, carrier_place, heading_place}
 use Rattle.model.specs.Accepted.{Limited}
 use Rattle.model.specs.Reading.{byte, Bytes, wide, zone_from, version_said, zones_said, track_said, position_said, refusal}
-use Rattle.model.proofs.PlaceLaws.{get_d_map_below}
+use Rattle.model.proofs.PlaceLaws.{get_or_map_below}
 use Rattle.model.proofs.LayoutLaws.{five, four, stride_least, stride_most}
 use Rattle.model.proofs.ReadingLaws.{InRange, no_row, said_length, said_count, carrier_narrow, in_range, start_in, length_ends, at_past}
 use Rattle.faircopy.specs.BoardBytes.{head_bytes, entry_byte, entry_bytes, board_bytes, needs_two, copy_bytes}
@@ -55,7 +55,7 @@ module _ (b : List ℕ) (accepted : refusal b ≡ 0) (v : Bool) (p : Position) (
   entry_small z k = go (ltb k (stride v)) refl
     where
       go : (s : Bool) → ltb k (stride v) ≡ s → get_or (entry_bytes v (track_said b) p z) k 0 < 256
-      go true e = rw (get_d_map_below (entry_byte v (track_said b) p z) (stride v) k 0 (ltb-true k (stride v) e)) (byte_small z k)
+      go true e = rw (get_or_map_below (entry_byte v (track_said b) p z) (stride v) k 0 (ltb-true k (stride v) e)) (byte_small z k)
       go false e =
           let past : get_or (entry_bytes v (track_said b) p z) k 0 ≡ 0 = get_or-eq_default (entry_bytes v (track_said b) p z) 0 (let l : stride v ≤ k = ltb-false k (stride v) e in omega (arith, length_entry v (track_said b) p z)) in
           omega arith

@@ -16,16 +16,16 @@ module _ (f : ℕ → List ℕ) (s : ℕ) (each : (x : ℕ) → length (f x) ≡
   length_entries [] = sym (mul-zero s)
   length_entries (a ∷ l) = length-append (f a) (flatten (map f l)) ∙ omega (arith, each a, length_entries l, mul-suc s (length l))
 
-  pub get_d_entries : (l : List ℕ) (i k : ℕ) → i < length l → k < s → get_or (flatten (map f l)) (s * i + k) 0 ≡ get_or (f (get_or l i 0)) k 0
+  pub get_or_entries : (l : List ℕ) (i k : ℕ) → i < length l → k < s → get_or (flatten (map f l)) (s * i + k) 0 ≡ get_or (f (get_or l i 0)) k 0
   unfolding flatten
-  get_d_entries [] i k h m = absurd (omega arith)
-  get_d_entries (a ∷ l) zero k h m =
+  get_or_entries [] i k h m = absurd (omega arith)
+  get_or_entries (a ∷ l) zero k h m =
       ap (λ (n : ℕ). get_or (f a ++ flatten (map f l)) n 0) (let e : s * zero + k ≡ k = omega (arith, mul-zero s) in e) ∙
       get_or-append (f a) (flatten (map f l)) 0 k (omega (arith, each a))
-  get_d_entries (a ∷ l) (suc i) k h m =
+  get_or_entries (a ∷ l) (suc i) k h m =
       ap (λ (n : ℕ). get_or (f a ++ flatten (map f l)) n 0) (let e : s * suc i + k ≡ length (f a) + (s * i + k) = omega (arith, each a, mul-suc s i) in e) ∙
       get_or-append-add (f a) (flatten (map f l)) (s * i + k) 0 ∙
-      get_d_entries l i k (omega arith) m
+      get_or_entries l i k (omega arith) m
 
   -- where all in each are small, all are
   pub small_entries : (n : ℕ) → 0 < n → ((x k : ℕ) → get_or (f x) k 0 < n) → (l : List ℕ) (i : ℕ) → get_or (flatten (map f l)) i 0 < n

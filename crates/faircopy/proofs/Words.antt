@@ -12,7 +12,7 @@ use Rattle.model.specs.Position.{Position, at, carrier_of}
 use Rattle.model.specs.Accepted.{held_limit, Limited}
 use Rattle.model.proofs.BoolLaws.{not_true_false}
 use Rattle.model.proofs.ListLaws.{any_true, any_false}
-use Rattle.model.proofs.PlaceLaws.{mem_get_d, get_d_mem}
+use Rattle.model.proofs.PlaceLaws.{mem_get_or, get_or_mem}
 use Rattle.faircopy.specs.BoardBytes.{needs_two}
 use Rattle.faircopy.specs.FairCopy.{AllFit, SomeOver}
 
@@ -21,14 +21,14 @@ module _ (f : ℕ → Bool) (p : Position) where
   some_word : any_of f p ≡ true → (z : ℕ) × (f (at p z) ≡ true)
   some_word e =
       let x = any_true f p e in
-      let z = mem_get_d 0 x.1 in
+      let z = mem_get_or 0 x.1 in
       (z.0, ap f z.2 ∙ x.2)
 
   no_word : f 0 ≡ false → any_of f p ≡ false → (z : ℕ) → f (at p z) ≡ false
   no_word free e z = go (ltb z (length p)) refl
     where
       go : (s : Bool) → ltb z (length p) ≡ s → f (at p z) ≡ false
-      go true h = any_false f e (get_d_mem 0 p z (ltb-true z (length p) h))
+      go true h = any_false f e (get_or_mem 0 p z (ltb-true z (length p) h))
       go false h = ap f (get_or-eq_default p 0 (ltb-false z (length p) h)) ∙ free
 
 -- the limit of what a zone holds

@@ -7,7 +7,7 @@ use mathlib.Core.Bool.{false}
 use native.Mathlib.Omega.{arith}
 use lib.ListN.{length}
 use Rattle.model.proofs.AscendingLaws.{NoRepeats}
-use Rattle.model.proofs.PlaceLaws.{mem_get_d}
+use Rattle.model.proofs.PlaceLaws.{mem_get_or}
 use Rattle.least.specs.Queue.{Queue, in_queue}
 use Rattle.least.proofs.RepeatLaws.{appended_no_repeats}
 use Rattle.least.proofs.QueueLaws.{size, word_at, from_at, start_queue, added, not_in_place, length_appended, size_added, word_old, from_old, added_places}
@@ -39,7 +39,7 @@ module _ {n : ℕ} {q : Queue} (p : Proper n q) where
     even = length_appended q.froms i ∙ ap suc p.even ∙ sym (size_added i q v);
     begun = rw (size_added i q v) (omega arith);
     lower = added_places i q v p.even (λ j w f. w < n) p.lower c;
-    different = appended_no_repeats q.words v p.different (λ m. let (j, h, r) = mem_get_d 0 m in not_in_place q v e j h r);
+    different = appended_no_repeats q.words v p.different (λ m. let (j, h, r) = mem_get_or 0 m in not_in_place q v e j h r);
     falls = λ j z h. added_places i q v p.even (λ j w f. 0 < j → f < j) (λ j h z. p.falls j z h) (λ z. b) j h z;
   }
 

@@ -14,7 +14,7 @@ use lib.Dec.{eqb}
 use borrow.Author.Tests.{eq-eqb}
 use Rattle.model.proofs.BoolLaws.{both_ways}
 use Rattle.model.proofs.ListLaws.{true_any, any_mem}
-use Rattle.model.proofs.PlaceLaws.{mem_get_d, get_d_mem}
+use Rattle.model.proofs.PlaceLaws.{mem_get_or, get_or_mem}
 use Rattle.least.specs.Queue.{Queue, in_queue, offer_if, offer, offer_all}
 
 -- how many words were found
@@ -57,10 +57,10 @@ offer_all_cons i q v vs = refl
 -- a word is in the queue exactly where it stands at a place
 
 pub in_place : (q : Queue) (v : ℕ) → in_queue q v ≡ true → (j : ℕ) × (j < size q) × (word_at q j ≡ v)
-in_place q v e = mem_get_d 0 (any_mem v q.words e)
+in_place q v e = mem_get_or 0 (any_mem v q.words e)
 
 pub place_in : (q : Queue) (j : ℕ) {v : ℕ} → j < size q → word_at q j ≡ v → in_queue q v ≡ true
-place_in q j {v} h e = true_any (eqb v) (get_d_mem 0 q.words j h) (eq-eqb v (word_at q j) (sym e))
+place_in q j {v} h e = true_any (eqb v) (get_or_mem 0 q.words j h) (eq-eqb v (word_at q j) (sym e))
 
 pub not_in_place : (q : Queue) (v : ℕ) → in_queue q v ≡ false → (j : ℕ) → j < size q → word_at q j ≡ v → ⊥
 not_in_place q v e j h r = both_ways (place_in q j h r) e

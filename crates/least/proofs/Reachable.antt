@@ -14,7 +14,7 @@ use Rattle.model.specs.Lists.{numbers_below, keep, any_of, n_times, Ascending}
 use Rattle.model.proofs.BoolLaws.{or_left, or_right, or_cases}
 use Rattle.model.proofs.ListLaws.{mem_below, below_mem, mem_keep, keep_mem, any_true, true_any, any_mem, mem_any, n_times_keeps}
 use Rattle.model.proofs.AscendingLaws.{same_numbers, keep_ascending, below_ascending, ascending_no_repeats}
-use Rattle.model.proofs.PlaceLaws.{mem_get_d, get_d_mem}
+use Rattle.model.proofs.PlaceLaws.{mem_get_or, get_or_mem}
 use Rattle.rules.specs.SearchCount.{among_or_next, found_from}
 use Rattle.least.specs.Queue.{Queue}
 use Rattle.least.specs.Ways.{Way, ends, goes}
@@ -102,13 +102,13 @@ module _ (nexts : ℕ → List ℕ) where
         module _ {i : ℕ} {q : Queue} (x : Explored nexts n w i q) (all : size q ≤ i) where
           in_queue_leads : {v : ℕ} → Memᴰ v q.words → Leads w v
           in_queue_leads {v} m =
-              let (j, h, e) = mem_get_d 0 m in
+              let (j, h, e) = mem_get_or 0 m in
               let (p, s) = back_exists x.tree.proper j h in
               let (vs, f, y) = back_way nexts (eqb v) n w x.tree s h (ends (eq-eqb v (word_at q j) (sym e))) in
               (vs, y)
 
           leads_in_queue : {v u : ℕ} {us : List ℕ} → Way nexts (eqb v) u us → (k : ℕ) → k < size q → word_at q k ≡ u → Memᴰ v q.words
-          leads_in_queue {v} {u} (ends e) k h f = subst (λ (y : ℕ). Memᴰ y q.words) (f ∙ sym (eqb-true v u e)) (get_d_mem 0 q.words k h)
+          leads_in_queue {v} {u} (ends e) k h f = subst (λ (y : ℕ). Memᴰ y q.words) (f ∙ sym (eqb-true v u e)) (get_or_mem 0 q.words k h)
           leads_in_queue (goes {v = y} m r) k h f =
               let there : Has k y q = x.closed k (omega arith) y (subst (λ (z : ℕ). Memᴰ y (nexts z)) (sym f) m) in
               leads_in_queue r there.place there.inside there.word

@@ -14,8 +14,8 @@ use Rattle.model.specs.Lists.{numbers_below, keep}
 use Rattle.model.specs.Track.{Track, zone_of, rev, start, leave, Linked, here, over}
 use Rattle.model.specs.Labels.{label, join_points, join_zone, join_zones, parts}
 use Rattle.model.proofs.BoolLaws.{decided}
-use Rattle.model.proofs.PlaceLaws.{get_d_map}
-use Rattle.model.proofs.ListLaws.{get_d_below, length_below, mem_below, below_mem, mem_keep, keep_mem}
+use Rattle.model.proofs.PlaceLaws.{get_or_map}
+use Rattle.model.proofs.ListLaws.{get_or_below, length_below, mem_below, below_mem, mem_keep, keep_mem}
 use Rattle.model.proofs.WordLaws.{rev_below, leave_rev, zone_below, same_zone}
 use Rattle.model.proofs.LinkLaws.{linked_trans, linked_sym, linked_same, linked_word}
 
@@ -28,7 +28,7 @@ module _ (ls : List ℕ) (p q : ℕ) where
 
   pub label_join : (r : ℕ) → r < length ls → label (join_points ls p q) r ≡ cond (eqb (label ls r) (label ls p)) (label ls q) (label ls r)
   unfolding join_points
-  label_join r h = get_d_map (λ l. cond (eqb l (label ls p)) (label ls q) l) ls 0 0 r h
+  label_join r h = get_or_map (λ l. cond (eqb l (label ls p)) (label ls q) l) ls 0 0 r h
 
   -- r has the label of p or of q
   abbrev pub InJoin : ℕ → Type 0
@@ -188,7 +188,7 @@ module _ (t : Track) where
     tied_linked passes = tied_least (Linked t (λ z. passes z ≡ true)) same zone (λ _ _ a. linked_sym t a) (λ _ _ _ a b. linked_trans t a b)
       where
         same : (r s : ℕ) → r < length (numbers_below t.points) → s < length (numbers_below t.points) → label (numbers_below t.points) r ≡ label (numbers_below t.points) s → Linked t (λ z. passes z ≡ true) r s
-        same r s h k e = linked_same t (sym (get_d_below t.points r 0 (rw length_below at h)) ∙ e ∙ get_d_below t.points s 0 (rw length_below at k))
+        same r s h k e = linked_same t (sym (get_or_below t.points r 0 (rw length_below at h)) ∙ e ∙ get_or_below t.points s 0 (rw length_below at k))
 
         zone : (z : ℕ) → Memᴰ z (passing passes) → Linked t (λ z. passes z ≡ true) (start t (2 * z)) (leave t (2 * z))
         zone z m =

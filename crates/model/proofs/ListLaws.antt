@@ -24,13 +24,13 @@ length_count_up k (suc n) = ap suc (length_count_up (suc k) n)
 pub length_below : (n : ℕ) → length (numbers_below n) ≡ n
 length_below n = length_count_up 0 n
 
-pub get_d_count_up : (k n i d : ℕ) → i < n → get_or (count_up k n) i d ≡ k + i
-get_d_count_up k zero i d h = absurd (omega arith)
-get_d_count_up k (suc n) zero d h = omega arith
-get_d_count_up k (suc n) (suc i) d h = get_d_count_up (suc k) n i d (omega arith) ∙ omega arith
+pub get_or_count_up : (k n i d : ℕ) → i < n → get_or (count_up k n) i d ≡ k + i
+get_or_count_up k zero i d h = absurd (omega arith)
+get_or_count_up k (suc n) zero d h = omega arith
+get_or_count_up k (suc n) (suc i) d h = get_or_count_up (suc k) n i d (omega arith) ∙ omega arith
 
-pub get_d_below : (n i d : ℕ) → i < n → get_or (numbers_below n) i d ≡ i
-get_d_below n i d h = get_d_count_up 0 n i d h ∙ omega arith
+pub get_or_below : (n i d : ℕ) → i < n → get_or (numbers_below n) i d ≡ i
+get_or_below n i d h = get_or_count_up 0 n i d h ∙ omega arith
 
 pub mem_count_up : (k n : ℕ) {x : ℕ} → Memᴰ x (count_up k n) → (k ≤ x) × (x < k + n)
 mem_count_up k zero m = absurd (Memᴰ.not-nil m)
@@ -286,10 +286,10 @@ any_append f (a ∷ l) m = ap (λ (t : Bool). f a || t) (any_append f l m) ∙ o
     or_assoc false s t = refl
 
 -- in zeros, and past their end, is 0
-pub get_d_zeros : (n i : ℕ) → ◌≡◌ {A = ℕ} (get_or (replicate n 0) i 0) 0
-get_d_zeros zero i = refl
-get_d_zeros (suc n) zero = refl
-get_d_zeros (suc n) (suc i) = get_d_zeros n i
+pub get_or_zeros : (n i : ℕ) → ◌≡◌ {A = ℕ} (get_or (replicate n 0) i 0) 0
+get_or_zeros zero i = refl
+get_or_zeros (suc n) zero = refl
+get_or_zeros (suc n) (suc i) = get_or_zeros n i
 
 -- tests over the numbers below n
 

@@ -13,33 +13,33 @@ use lib.Seq.{ext_get_or}
 use lib.Dec.{eqb}
 use borrow.Author.Tests.{eqb-true, eqb-false, ne_eqb}
 use Rattle.model.specs.Lists.{numbers_below, cons_if, keep, how_many}
-use Rattle.model.proofs.ListLaws.{get_d_below, keep_all, length_below}
+use Rattle.model.proofs.ListLaws.{get_or_below, keep_all, length_below}
 use Rattle.model.proofs.AscendingLaws.{NoRepeats}
 
 -- places
 
 module _ {A : Type 0} where
-  pub mem_get_d : (d : A) {x : A} {l : List A} → Memᴰ x l → (i : ℕ) × (i < length l) × (get_or l i d ≡ x)
-  mem_get_d d (Memᴰ.head q) = (0, omega arith, sym q)
-  mem_get_d d (Memᴰ.tail m) = let r = mem_get_d d m in (suc r.0, omega (arith, r.1), r.2)
+  pub mem_get_or : (d : A) {x : A} {l : List A} → Memᴰ x l → (i : ℕ) × (i < length l) × (get_or l i d ≡ x)
+  mem_get_or d (Memᴰ.head q) = (0, omega arith, sym q)
+  mem_get_or d (Memᴰ.tail m) = let r = mem_get_or d m in (suc r.0, omega (arith, r.1), r.2)
 
-  pub get_d_mem : (d : A) (l : List A) (i : ℕ) → i < length l → Memᴰ (get_or l i d) l
-  get_d_mem d [] i h = absurd (omega arith)
-  get_d_mem d (a ∷ l) zero h = Memᴰ.head refl
-  get_d_mem d (a ∷ l) (suc i) h = Memᴰ.tail (get_d_mem d l i (omega arith))
+  pub get_or_mem : (d : A) (l : List A) (i : ℕ) → i < length l → Memᴰ (get_or l i d) l
+  get_or_mem d [] i h = absurd (omega arith)
+  get_or_mem d (a ∷ l) zero h = Memᴰ.head refl
+  get_or_mem d (a ∷ l) (suc i) h = Memᴰ.tail (get_or_mem d l i (omega arith))
 
   -- map by functions that agree on the members
   pub map_ext : {B : Type 0} (f g : A → B) (l : List A) → ((x : A) → Memᴰ x l → f x ≡ g x) → map f l ≡ map g l
   map_ext f g [] h = refl
   map_ext {B} f g (a ∷ l) h = ap₂ (λ (x : B) (y : List B). x ∷ y) (h a (Memᴰ.head refl)) (map_ext f g l (λ x m. h x (Memᴰ.tail m)))
 
-  pub get_d_map : {B : Type 0} (f : A → B) (l : List A) (d : A) (e : B) (i : ℕ) → i < length l → get_or (map f l) i e ≡ f (get_or l i d)
-  get_d_map f [] d e i h = absurd (omega arith)
-  get_d_map f (a ∷ l) d e zero h = refl
-  get_d_map f (a ∷ l) d e (suc i) h = get_d_map f l d e i (omega arith)
+  pub get_or_map : {B : Type 0} (f : A → B) (l : List A) (d : A) (e : B) (i : ℕ) → i < length l → get_or (map f l) i e ≡ f (get_or l i d)
+  get_or_map f [] d e i h = absurd (omega arith)
+  get_or_map f (a ∷ l) d e zero h = refl
+  get_or_map f (a ∷ l) d e (suc i) h = get_or_map f l d e i (omega arith)
 
-pub get_d_map_below : {B : Type 0} (f : ℕ → B) (n i : ℕ) (e : B) → i < n → get_or (map f (numbers_below n)) i e ≡ f i
-get_d_map_below f n i e h = get_d_map f (numbers_below n) 0 e i (rw length_below h) ∙ ap f (get_d_below n i 0 h)
+pub get_or_map_below : {B : Type 0} (f : ℕ → B) (n i : ℕ) (e : B) → i < n → get_or (map f (numbers_below n)) i e ≡ f i
+get_or_map_below f n i e h = get_or_map f (numbers_below n) 0 e i (rw length_below h) ∙ ap f (get_or_below n i 0 h)
 
 -- as many images pass as numbers whose image passes
 pub how_many_map : (f : ℕ → Bool) (g : ℕ → ℕ) (l : List ℕ) → how_many f (map g l) ≡ how_many (λ x. f (g x)) l
@@ -54,7 +54,7 @@ how_many_map f g (a ∷ l) = by (f (g a)) (how_many_map f g l)
 by_places : (l : List ℕ) → map (λ i. get_or l i 0) (numbers_below (length l)) ≡ l
 by_places l =
     ext_get_or 0 (map (λ i. get_or l i 0) (numbers_below (length l))) l as_long
-    (λ i h. get_d_map_below (λ j. get_or l j 0) (length l) i 0 (subst (λ (n : ℕ). i < n) as_long h))
+    (λ i h. get_or_map_below (λ j. get_or l j 0) (length l) i 0 (subst (λ (n : ℕ). i < n) as_long h))
   where
     as_long : length (map (λ i. get_or l i 0) (numbers_below (length l))) ≡ length l
     as_long = length-map (numbers_below (length l)) (λ i. get_or l i 0) ∙ length_below (length l)

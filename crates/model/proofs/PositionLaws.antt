@@ -19,7 +19,7 @@ use Rattle.model.specs.Accepted.{Laid}
 use Rattle.model.proofs.BoolLaws.{decided}
 use Rattle.model.proofs.ListLaws.{mem_keep, keep_mem, how_many_length}
 use Rattle.model.proofs.AscendingLaws.{mem_ascending, ascending_mem, length_ascending, ascending_strict, ascending_unique, ascending_no_repeats, keep_ascending, NoRepeats}
-use Rattle.model.proofs.PlaceLaws.{keep_one_fewer, mem_get_d, get_d_mem}
+use Rattle.model.proofs.PlaceLaws.{keep_one_fewer, mem_get_or, get_or_mem}
 use Rattle.model.proofs.WordLaws.{below_zone, carrier_word, heading_small, heading_word, word_parts}
 
 -- what is left when carriers are taken off
@@ -149,7 +149,7 @@ pub mem_outs : (p : Position) {c : ℕ} → Memᴰ c (outs p) → Out p c
 mem_outs p {c} m =
     let k = mem_keep (λ c. not (eqb c 0)) (map carrier_of p) (mem_ascending (keep (λ c. not (eqb c 0)) (map carrier_of p)) m) in
     let v = Memᴰ.of_map carrier_of p k.0 in
-    let i = mem_get_d 0 v.1 in
+    let i = mem_get_or 0 v.1 in
     let e : carrier_of (at p i.0) ≡ c = ap carrier_of i.2 ∙ v.2 in
     (2 * i.0 + heading_of (at p i.0), subst (λ (x : ℕ). Stands p x (2 * i.0 + heading_of (at p i.0))) e (held_stands p i.0 i.1 (λ q. eqb-false c 0 (not-true (eqb c 0) k.1) (sym e ∙ q))))
 
@@ -157,7 +157,7 @@ pub outs_mem : (p : Position) {c : ℕ} → Out p c → Memᴰ c (outs p)
 outs_mem p {c} o =
     let w : ℕ = o.0 in
     let s : Stands p c w = o.1 in
-    ascending_mem (keep_mem (λ c. not (eqb c 0)) (Memᴰ.cast (sym (stands_carrier s)) (Memᴰ.map carrier_of (get_d_mem 0 p (zone_of w) s.inside))) (ap not (ne_eqb c 0 s.numbered)))
+    ascending_mem (keep_mem (λ c. not (eqb c 0)) (Memᴰ.cast (sym (stands_carrier s)) (Memᴰ.map carrier_of (get_or_mem 0 p (zone_of w) s.inside))) (ap not (ne_eqb c 0 s.numbered)))
 
 -- no two zones of a list hold one carrier
 abbrev ZonesApart : Position → Type 0
@@ -197,7 +197,7 @@ apart_no_repeats (v ∷ p) a = go (eqb (carrier_of v) 0) refl (apart_no_repeats 
     twice n m =
         let k = mem_keep (λ c. not (eqb c 0)) (map carrier_of p) m in
         let u = Memᴰ.of_map carrier_of p k.0 in
-        let i = mem_get_d 0 u.1 in
+        let i = mem_get_or 0 u.1 in
         let q : 0 ≡ suc i.0 = a 0 (suc i.0) (omega arith) (omega (arith, i.1)) n (sym u.2 ∙ ap carrier_of (sym i.2)) in
         omega arith
 

@@ -19,7 +19,7 @@ use Rattle.model.specs.Reading.{byte, Bytes, two_bytes, wide, zone_from, length_
 use Rattle.model.specs.Accepted.{HangsTogether, AcceptedTrack, Laid, held_limit, Limited, Ready}
 use Rattle.model.proofs.BoolLaws.{both_ways, decided, and_left, and_right, and_both, or-true}
 use Rattle.model.proofs.ListLaws.{length_below, any_below_false, below_any, all_below, all_below_false}
-use Rattle.model.proofs.PlaceLaws.{get_d_map_below}
+use Rattle.model.proofs.PlaceLaws.{get_or_map_below}
 use Rattle.model.proofs.WordLaws.{zone_below}
 use Rattle.model.proofs.LinkLaws.{linked_mono}
 use Rattle.model.proofs.LabelLaws.{parts_linked, linked_parts}
@@ -234,7 +234,7 @@ module _ (b : List ℕ) where
 module _ (b : List ℕ) where
   pub start_said : (w : ℕ) → w < 2 * zones_said b → start (track_said b) w ≡ end_said b w
   unfolding track_said
-  start_said w h = get_d_map_below (end_said b) (2 * zones_said b) w 0 h
+  start_said w h = get_or_map_below (end_said b) (2 * zones_said b) w 0 h
 
   -- a word starts at end A of its zone, or at end B
   pub said_a : (w : ℕ) → heading_of w ≡ 0 → end_said b w ≡ end_a b (zone_of w)
@@ -262,7 +262,7 @@ module _ (b : List ℕ) where
 
   pub at_said : (z : ℕ) → z < zones_said b → at (position_said b) z ≡ 2 * carrier_in b z + heading_in b z
   unfolding position_said
-  at_said z h = get_d_map_below (λ z. 2 * carrier_in b z + heading_in b z) (zones_said b) z 0 h
+  at_said z h = get_or_map_below (λ z. 2 * carrier_in b z + heading_in b z) (zones_said b) z 0 h
 
   pub at_past : (z : ℕ) → zones_said b ≤ z → at (position_said b) z ≡ 0
   at_past z h = get_or-eq_default (position_said b) 0 (rw length_position h)

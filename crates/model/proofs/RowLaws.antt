@@ -14,7 +14,7 @@ use Rattle.model.specs.Lists.{numbers_below, any_of, how_many}
 use Rattle.model.specs.Track.{start}
 use Rattle.model.specs.Reading.{length_said, version_said, wide, points_said, home_said, zones_said, end_a, end_b, carrier_in, heading_in, track_said, too_short, wrong_length, wrong_version, out_of_range, wrong_count, bad_zone, repeated, under_two, apart, refusal}
 use Rattle.model.specs.Layout.{length_of}
-use Rattle.model.specs.Rows.{StartsAt, Row, under_six, other_length, other_version, few_points, many_points, home_outside, few_zones, many_zones, not_four_each, not_five_each, end_a_outside, end_b_outside, heading_over_1, free_with_1, in_two_zones, under_two_lem, not_linked, FirstRow, RefusalRight}
+use Rattle.model.specs.Rows.{StartsAt, Row, under_six, other_length, other_version, few_points, many_points, home_outside, few_zones, many_zones, not_four_each, not_five_each, end_a_outside, end_b_outside, heading_over_1, free_with_1, in_two_zones, under_two_zones, not_linked, FirstRow, RefusalRight}
 use Rattle.model.proofs.BoolLaws.{both_ways, decided, or_cases, or_false_left, or_false_right, and_left, and_right, and_false_cases}
 use Rattle.model.proofs.ListLaws.{any_below}
 use Rattle.model.proofs.CountLaws.{TwoPass, two_pass, pass_two}
@@ -109,7 +109,7 @@ module _ (b : List ℕ) where
   refuted (heading_over_1 z i h) f = omega (arith, (good_zone b (f 6 (omega arith)) z i).heading)
   refuted (free_with_1 z i c h) f = (good_zone b (f 6 (omega arith)) z i).free_heading c h
   refuted (in_two_zones y z i j d c e) f = in_one_zone (f 7 (omega arith)) y z i j d c e
-  refuted (under_two_lem q i d h) f = two_start (f 8 (omega arith)) q i d h
+  refuted (under_two_zones q i d h) f = two_start (f 8 (omega arith)) q i d h
   refuted (not_linked p q i j h) f = h (hangs_said b (no_row_past (λ m l. f m (omega arith))) (f 9 (omega arith)) p q i j)
 
   -- where a row's test passes and none before it, the row holds
@@ -199,7 +199,7 @@ module _ (b : List ℕ) where
       let r = any_below (under_two b) (points_said b) e in
       let q : ℕ = r.0 in
       let few : how_many (eqb q) (track_said b).ends < 2 = ltb-true _ 2 (and_right (not (eqb q (home_said b))) (ltb (how_many (eqb q) (track_said b).ends) 2) r.2) in
-      under_two_lem q r.1 (eqb-false q (home_said b) (not-true _ (and_left (not (eqb q (home_said b))) (ltb (how_many (eqb q) (track_said b).ends) 2) r.2))) (λ w v x y. one q few w v x y (decided (eqb w v)))
+      under_two_zones q r.1 (eqb-false q (home_said b) (not-true _ (and_left (not (eqb q (home_said b))) (ltb (how_many (eqb q) (track_said b).ends) 2) r.2))) (λ w v x y. one q few w v x y (decided (eqb w v)))
     where
       one : (q : ℕ) → how_many (eqb q) (track_said b).ends < 2 → (w v : ℕ) → StartsAt (track_said b) q w → StartsAt (track_said b) q v → (eqb w v ≡ true) ⊎ (eqb w v ≡ false) → w ≡ v
       one q few w v x y (inl d) = eqb-true w v d

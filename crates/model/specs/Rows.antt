@@ -34,7 +34,7 @@ pub data Row (b : List ℕ) : ℕ → Type 0 where
   -- a carrier in two zones
   in_two_zones : (y z : ℕ) → y < zones_said b → z < zones_said b → (y ≡ z → ⊥) → (carrier_in b z ≡ 0 → ⊥) → carrier_in b y ≡ carrier_in b z → Row b 7
   -- a point other than home with under two zones: no two words start there
-  under_two_lem : (q : ℕ) → q < points_said b → (q ≡ home_said b → ⊥) → ((w v : ℕ) → StartsAt (track_said b) q w → StartsAt (track_said b) q v → w ≡ v) → Row b 8
+  under_two_zones : (q : ℕ) → q < points_said b → (q ≡ home_said b → ⊥) → ((w v : ℕ) → StartsAt (track_said b) q w → StartsAt (track_said b) q v → w ≡ v) → Row b 8
   -- points that don't hang together
   not_linked : (p q : ℕ) → p < points_said b → q < points_said b → (Linked (track_said b) (λ z. Unit {0}) p q → ⊥) → Row b 9
 

@@ -13,7 +13,7 @@ use lib.Dec.{eqb, ltb}
 use lib.Count.{ones}
 use Rattle.model.specs.Lists.{numbers_below, cons_if, keep, how_many}
 use Rattle.model.specs.Position.{Position, is_free}
-use Rattle.model.proofs.ListLaws.{below_suc, mem_below, mem_keep, keep_append, keep_none, keep_lowest, how_many_ext, how_many_none, get_d_zeros}
+use Rattle.model.proofs.ListLaws.{below_suc, mem_below, mem_keep, keep_append, keep_none, keep_lowest, how_many_ext, how_many_none, get_or_zeros}
 use Rattle.model.proofs.CountLaws.{how_many_below, how_many_below_ext, how_many_below_pass, how_many_below_skip, how_many_either}
 use Rattle.bits.specs.Sets.{has_bit, set_minus, Lowest}
 use Rattle.bits.proofs.BitLaws.{bit_none, minus_gone, minus_word, alone_there, alone_word}
@@ -30,7 +30,7 @@ starts ends p q z = is_free p z && eqb (get_or ends (2 * z) 0) q
 pub starts_none : (ends : List ℕ) (p : Position) → StartCounts 0 ends p (replicate 64 0)
 starts_none ends p = record {
   long = length-replicate {A = ℕ} 64 0;
-  each = λ q h. get_d_zeros 64 q;
+  each = λ q h. get_or_zeros 64 q;
 }
 
 module _ {z : ℕ} {ends : List ℕ} {p : Position} {counts : List ℕ} (s : StartCounts z ends p counts) where

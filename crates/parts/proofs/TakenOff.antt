@@ -12,7 +12,7 @@ use Rattle.model.specs.Lists.{numbers_below}
 use Rattle.model.specs.Track.{heading_of, rev}
 use Rattle.model.specs.Position.{Position, at}
 use Rattle.model.proofs.ListLaws.{length_below}
-use Rattle.model.proofs.PlaceLaws.{get_d_map_below}
+use Rattle.model.proofs.PlaceLaws.{get_or_map_below}
 use Rattle.bits.specs.Sets.{has_bit}
 use Rattle.reach.proofs.OverLaws.{last}
 use Rattle.parts.specs.Home.{leaves_at, left_position}
@@ -27,7 +27,7 @@ length_left ends s p = length-map (numbers_below (length p)) (left_at ends s p) 
 
 pub at_left : (ends : List ℕ) (s : ℕ) (p : Position) (z : ℕ) → z < length p → at (left_position ends s p) z ≡ left_at ends s p z
 unfolding left_position
-at_left ends s p z h = get_d_map_below (left_at ends s p) (length p) z 0 h
+at_left ends s p z h = get_or_map_below (left_at ends s p) (length p) z 0 h
 
 pub record Taking (ends : List ℕ) (s : ℕ) (p : Position) (z : ℕ) (q : Position) : Type 0 where
   pub as_long : length q ≡ length p

@@ -15,7 +15,7 @@ use Rattle.model.specs.Track.{zone_of, rev}
 use Rattle.model.proofs.BoolLaws.{same_test}
 use Rattle.model.proofs.ListLaws.{mem_below, below_mem, mem_count_up, count_up_append, mem_keep, keep_mem, keep_append, keep_ext, keep_none, any_append, any_mem, mem_any}
 use Rattle.model.proofs.CountLaws.{how_many_below, how_many_below_ext, how_many_either}
-use Rattle.model.proofs.PlaceLaws.{get_d_mem, get_d_map}
+use Rattle.model.proofs.PlaceLaws.{get_or_mem, get_or_map}
 use Rattle.rules.specs.Key.{may_enter, ungated_steps, nexts_by}
 use Rattle.least.specs.Queue.{offer_all}
 use Rattle.queue.specs.WordSets.{in_set}
@@ -185,7 +185,7 @@ module _ {zones : ℕ} {ends p follows : List ℕ} (t : BoardTable zones ends p 
             let sum : j ≡ found + (j - found) = omega arith in
             let few : j - found < length next = omega (arith, o.stored.longer) in
             let there : get_or words' j 0 ≡ get_or next (j - found) 0 = ap (λ (k : ℕ). get_or words' k 0) sum ∙ stored_there next words words' found (omega (arith, queued_most q, q.room_words)) words_taken (j - found) few in
-            rw there (mem_below m (mem_keep new (numbers_below m) (rw next_is (get_d_mem 0 next (j - found) few))).0)
+            rw there (mem_below m (mem_keep new (numbers_below m) (rw next_is (get_or_mem 0 next (j - found) few))).0)
 
         falls : (j : ℕ) → 0 < j → j < r → (b : Bool) → ltb j found ≡ b → get_or froms' j 0 < j
         falls j z h true e =
@@ -198,5 +198,5 @@ module _ {zones : ℕ} {ends p follows : List ℕ} (t : BoardTable zones ends p 
             let there : get_or froms' j 0 ≡ i =
             ap (λ (k : ℕ). get_or froms' k 0) sum ∙
             stored_there (map (λ v. i) next) froms froms' found (omega (arith, queued_most q, q.room_froms)) froms_taken (j - found) (rw (length-map next (λ v. i)) few) ∙
-            get_d_map (λ v. i) next 0 0 (j - found) few in
+            get_or_map (λ v. i) next 0 0 (j - found) few in
             rw there (omega arith)

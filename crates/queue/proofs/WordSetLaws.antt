@@ -12,7 +12,7 @@ use lib.Dec.{eqb, ltb}
 use lib.Bits.{bit_or}
 use Rattle.model.specs.Position.{Position, is_free}
 use Rattle.model.proofs.BoolLaws.{same_test}
-use Rattle.model.proofs.ListLaws.{get_d_zeros}
+use Rattle.model.proofs.ListLaws.{get_or_zeros}
 use Rattle.bits.specs.Sets.{has_bit}
 use Rattle.bits.proofs.BitLaws.{bit_with, bit_none}
 use Rattle.queue.specs.WordSets.{in_set, Added, ZoneAdded, Fillable, FreeWords}
@@ -37,7 +37,7 @@ next_below f x z = go (eqb x z) refl
 
 -- no word is in blocks of zeros
 pub no_words : (n v : ℕ) → in_set (replicate n 0) v ≡ false
-no_words n v = ap (λ (b : ℕ). has_bit b (v % 64)) (get_d_zeros n (v / 64)) ∙ bit_none (v % 64)
+no_words n v = ap (λ (b : ℕ). has_bit b (v % 64)) (get_or_zeros n (v / 64)) ∙ bit_none (v % 64)
 
 -- the block of w stored with its bit
 pub word_added : (l : List ℕ) (w b : ℕ) → w / 64 < length l → b ≡ bit_or (get_or l (w / 64) 0) (2 ^ (w % 64)) → Added w l (set l (w / 64) b)

@@ -8,7 +8,7 @@ use mathlib.Core.Bool.{Bool, true, false, true≢false}
 use native.Mathlib.Nat.{eq-or-lt_of_le}
 use native.Mathlib.Omega.{arith}
 use lib.ListN.{length, get_or, replicate, length-set}
-use Rattle.model.proofs.ListLaws.{get_d_zeros}
+use Rattle.model.proofs.ListLaws.{get_or_zeros}
 use Rattle.bits.specs.Sets.{has_bit}
 use Rattle.bits.proofs.BitLaws.{bit_none}
 use Rattle.reach.specs.Ways.{Ways, WaysOver}
@@ -22,7 +22,7 @@ module _ (start leave : ℕ → ℕ) (goes : ℕ → Bool) where
   pub over_none : WaysOver start leave goes 0 (replicate 64 0)
   over_none = record {
     long = refl;
-    sound = λ a b e. absurd (true≢false (sym e ∙ ap (λ (x : ℕ). has_bit x b) (get_d_zeros 64 a) ∙ bit_none b));
+    sound = λ a b e. absurd (true≢false (sym e ∙ ap (λ (x : ℕ). has_bit x b) (get_or_zeros 64 a) ∙ bit_none b));
     whole = λ w h g. absurd (omega arith);
   }
 

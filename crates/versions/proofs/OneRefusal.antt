@@ -11,7 +11,7 @@ use borrow.Author.Tests.{eqb-true, eqb-false}
 use Rattle.model.specs.Lists.{numbers_below}
 use Rattle.model.specs.Track.{Track, zone_of, heading_of, Linked}
 use Rattle.model.specs.Reading.{zones_said, carrier_in, heading_in, end_said, track_said, position_said, refusal}
-use Rattle.model.specs.Rows.{StartsAt, Row, under_six, other_length, other_version, few_points, many_points, home_outside, few_zones, many_zones, not_four_each, not_five_each, end_a_outside, end_b_outside, heading_over_1, free_with_1, in_two_zones, under_two_lem, not_linked, FirstRow}
+use Rattle.model.specs.Rows.{StartsAt, Row, under_six, other_length, other_version, few_points, many_points, home_outside, few_zones, many_zones, not_four_each, not_five_each, end_a_outside, end_b_outside, heading_over_1, free_with_1, in_two_zones, under_two_zones, not_linked, FirstRow}
 use Rattle.model.proofs.BoolLaws.{decided}
 use Rattle.model.proofs.ListLaws.{mem_below}
 use Rattle.model.proofs.PlaceLaws.{map_ext}
@@ -82,8 +82,8 @@ row_alike past s (heading_over_1 z i h) = heading_over_1 z (omega (arith, s.zone
 row_alike past s (free_with_1 z i c h) = free_with_1 z (omega (arith, s.zones)) (sym (s.carrier z i) ∙ c) (sym (s.heading z i) ∙ h)
 row_alike past s (in_two_zones y z i j d c e) =
     in_two_zones y z (omega (arith, s.zones)) (omega (arith, s.zones)) d (λ q. c (s.carrier z j ∙ q)) (sym (s.carrier y i) ∙ e ∙ s.carrier z j)
-row_alike past s (under_two_lem q i o h) =
-    under_two_lem q (omega (arith, s.points)) (λ e. o (e ∙ sym s.home))
+row_alike past s (under_two_zones q i o h) =
+    under_two_zones q (omega (arith, s.points)) (λ e. o (e ∙ sym s.home))
     (λ w v x y. h w v (subst (λ (t : Track). StartsAt t q w) (sym (track_alike s)) x) (subst (λ (t : Track). StartsAt t q v) (sym (track_alike s)) y))
 row_alike past s (not_linked p q i j h) =
     not_linked p q (omega (arith, s.points)) (omega (arith, s.points)) (λ l. h (subst (λ (t : Track). Linked t (λ z. Unit {0}) p q) (sym (track_alike s)) l))

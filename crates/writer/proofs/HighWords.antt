@@ -10,7 +10,7 @@ use lib.Dec.{leb}
 use borrow.Author.Tests.{le-leb}
 use Rattle.model.specs.Lists.{any_of}
 use Rattle.model.proofs.ListLaws.{true_any, false_any}
-use Rattle.model.proofs.PlaceLaws.{mem_get_d, get_d_mem}
+use Rattle.model.proofs.PlaceLaws.{mem_get_or, get_or_mem}
 use Rattle.board.proofs.Turns.{NoneYet}
 
 -- the word of zone z is so high
@@ -19,7 +19,7 @@ high sheet least z = leb least (get_or sheet z 0)
 
 module _ (sheet : List ℕ) (least : ℕ) {z : ℕ} where
   pub high_met : z < length sheet → least ≤ get_or sheet z 0 → true ≡ any_of (leb least) sheet
-  high_met h l = sym (true_any (leb least) (get_d_mem 0 sheet z h) (le-leb least (get_or sheet z 0) l))
+  high_met h l = sym (true_any (leb least) (get_or_mem 0 sheet z h) (le-leb least (get_or sheet z 0) l))
 
   pub none_high : NoneYet (high sheet least) (length sheet) z → length sheet ≤ z → false ≡ any_of (leb least) sheet
-  none_high g h = sym (false_any (leb least) sheet (λ x m. let i = mem_get_d 0 m in ap (leb least) (sym i.2) ∙ g.none_yet i.0 (let l = i.1 in omega arith)))
+  none_high g h = sym (false_any (leb least) sheet (λ x m. let i = mem_get_or 0 m in ap (leb least) (sym i.2) ∙ g.none_yet i.0 (let l = i.1 in omega arith)))

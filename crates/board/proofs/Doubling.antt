@@ -9,8 +9,8 @@ use mathlib.Core.Bool.{Bool, true, false, not, ◌&&◌, ◌||◌}
 use lib.ListN.{length}
 use lib.Bits.{bit_or, bit_and, or_lt}
 use lib.Pow.{ones_lt, pow_mono}
-use lib.Dec.{leb, eqb}
-use borrow.Author.Tests.{le-leb, lt-leb, leb-true, leb-false}
+use lib.Dec.{leb, ltb, eqb}
+use Rattle.std.proofs.lemmas.Bool.Decides.{nat_tests}
 use Rattle.model.specs.Lists.{numbers_below, cons_if, how_many, any_of}
 use Rattle.model.specs.Reading.{under_two, track_said, zones_said, home_said, points_said, end_said}
 use Rattle.model.proofs.ListLaws.{how_many_append, below_any, below_any_false}
@@ -20,7 +20,6 @@ use Rattle.bits.proofs.LowestLaws.{trailing_lowest}
 use Rattle.board.specs.declared.input.Zone.{Zone}
 use Rattle.board.specs.Inner.{ByteAt, ZoneAt, starts_at, Inside, Doubled}
 use Rattle.board.proofs.Filling.{map_next, first_end, second_end}
-use Rattle.board.proofs.Rows.{ltb_is}
 
 -- the points where one and where two of the first w words, or more, start
 pub record StartsTwice (b : List ℕ) (once twice w : ℕ) : Type 0 where
@@ -33,25 +32,18 @@ starts_first b = record { one = λ p l. bit_none p; two = λ p l. bit_none p }
 starts_more : (b : List ℕ) (w p : ℕ) → starts_at b (w + 1) p ≡ starts_at b w p + length (cons_if (eqb p (end_said b w)) (end_said b w) [])
 starts_more b w p = ap (how_many (eqb p)) (map_next (end_said b) w) ∙ how_many_append (eqb p) (map (end_said b) (numbers_below w)) (end_said b w ∷ [])
 
+-- a test of the count by that of one word more, or of none
 or_one : (n : ℕ) → (leb 1 n || true) ≡ leb 1 (n + 1)
-or_one n = go (leb 1 n) ∙ sym (le-leb 1 (n + 1) (omega arith))
-  where
-    go : (t : Bool) → (t || true) ≡ true
-    go true = refl
-    go false = refl
+or_one n = grind (arith, nat_tests)
 
 or_two : (n : ℕ) → (leb 2 n || (leb 1 n && true)) ≡ leb 2 (n + 1)
-or_two n = go (leb 2 n) refl (leb 1 n) refl
-  where
-    go : (s : Bool) → leb 2 n ≡ s → (t : Bool) → leb 1 n ≡ t → (s || (t && true)) ≡ leb 2 (n + 1)
-    go true d t e = sym (le-leb 2 (n + 1) (let h : 2 ≤ n = leb-true 2 n d in omega arith))
-    go false d true e = sym (le-leb 2 (n + 1) (let h : 1 ≤ n = leb-true 1 n e in omega arith))
-    go false d false e = sym (lt-leb 2 (n + 1) (let h : n < 1 = leb-false 1 n e in omega arith))
+or_two n = grind (arith, nat_tests)
 
 or_none : (s t : Bool) → (s || (t && false)) ≡ s
-or_none true t = refl
-or_none false true = refl
-or_none false false = refl
+or_none s t = grind arith
+
+fewer : (m n : ℕ) → ltb m n ≡ not (leb n m)
+fewer m n = grind (arith, nat_tests)
 
 pub starts_next : {b : List ℕ} {once twice w p : ℕ} → StartsTwice b once twice w → p ≡ end_said b w → StartsTwice b (bit_or once (2 ^ p)) (bit_or twice (bit_and once (2 ^ p))) (w + 1)
 starts_next {b} {once} {twice} {w} {p} S e = record { one = λ q l. first q l (eqb q p) refl; two = λ q l. second q l (eqb q p) refl }
@@ -84,9 +76,6 @@ starts_zone {b} {once₂ = once₂} {twice₂ = twice₂} {z} S Z e f g h =
     (subst₂ (λ (x y : ℕ). StartsTwice b x y (2 * z + 1 + 1)) (sym g) (sym h)
     (starts_next (subst₂ (λ (x y : ℕ). StartsTwice b x y (2 * z + 1)) (sym e) (sym f) (starts_next S (first_end Z))) (second_end Z)))
 
-pub starts_last : {b : List ℕ} {once twice n z : ℕ} → ByteAt b 5 n → z ≤ n → n ≤ z → StartsTwice b once twice (2 * z) → Doubled b twice
-starts_last {b} {once} {twice} {n} {z} N i j S = record { holds = (subst (λ (x : ℕ). StartsTwice b once twice (2 * x)) (let s : n ≡ zones_said b = N.is in let q : z ≡ zones_said b = omega arith in q) S).two }
-
 pub some_points : {b : List ℕ} {p : ℕ} → Inside b → ByteAt b 3 p → (0 < p) × (p ≤ 64)
 some_points {b} {p} I P =
     let e : p ≡ points_said b = P.is in
@@ -115,15 +104,12 @@ module _ {b : List ℕ} {p h twice : ℕ} (I : Inside b) (D : Doubled b twice) (
   under_two_bit : (q : ℕ) → q < p → under_two b q ≡ has_bit under_two_set q
   unfolding under_two track_said
   under_two_bit q l =
-      ap₂ (λ (x : ℕ) (t : Bool). not (eqb q x) && t) (sym H.is) (ltb_is (starts_at b (2 * zones_said b) q) 2 ∙ ap not (sym (D.holds q (let m : p ≤ 64 = (some_points I P).1 in omega arith)))) ∙
+      ap₂ (λ (x : ℕ) (t : Bool). not (eqb q x) && t) (sym H.is) (fewer (starts_at b (2 * zones_said b) q) 2 ∙ ap not (sym (D.holds q (let m : p ≤ 64 = (some_points I P).1 in omega arith)))) ∙
       flip (has_bit twice q) (eqb q h) ∙
       sym (bit_minus (2 ^ p - 1) (bit_or twice (2 ^ h)) q all_word rest_word ∙ ap₂ (λ (s t : Bool). s && not t) (bit_all p q l) (bit_with twice h q))
     where
       flip : (s t : Bool) → (not t && not s) ≡ (true && not (s || t))
-      flip true true = refl
-      flip true false = refl
-      flip false true = refl
-      flip false false = refl
+      flip s t = grind arith
 
   none_under_two : under_two_set ≡ 0 → any_of (under_two b) (numbers_below (points_said b)) ≡ false
   none_under_two e = below_any_false (under_two b) (points_said b) (λ q l. under_two_bit q (let s : p ≡ points_said b = P.is in let k : q < p = omega arith in k) ∙ ap (λ (s : ℕ). has_bit s q) e ∙ bit_none q)

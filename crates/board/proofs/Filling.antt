@@ -5,7 +5,7 @@ use native.Mathlib.Omega.{arith}
 use native.Mathlib.Numerals.{add-one}
 use mathlib.Core.List.{List, [], ◌∷◌, ◌++◌, map, map-append, append_assoc}
 use mathlib.Core.Path.{◌≡◌, sym, ◌∙◌, ap, ap₂}
-use lib.ListN.{length, set, replicate, length-map, length-append, length-replicate}
+use lib.ListN.{length, set, replicate, length-map}
 use lib.Seq.{set_at}
 use Rattle.model.specs.Lists.{numbers_below}
 use Rattle.model.specs.Reading.{end_a, end_b, track_said, position_said, zones_said, carrier_in, heading_in, end_said}
@@ -22,10 +22,6 @@ filled n f w = map f (numbers_below w) ++ replicate (n - w) 0
 
 pub length_mapped : (f : ℕ → ℕ) (w : ℕ) → length (map f (numbers_below w)) ≡ w
 length_mapped f w = length-map (numbers_below w) f ∙ length_below w
-
-filled_size : {e : List ℕ} (n : ℕ) (f : ℕ → ℕ) (w : ℕ) → e ≡ filled n f w → w ≤ n → length e ≡ n
-filled_size n f w e l =
-    ap length e ∙ length-append (map f (numbers_below w)) (replicate (n - w) 0) ∙ ap₂ (λ (x y : ℕ). x + y) (length_mapped f w) (length-replicate (n - w) 0) ∙ omega arith
 
 pub map_next : (f : ℕ → ℕ) (n : ℕ) → map f (numbers_below (n + 1)) ≡ map f (numbers_below n) ++ (f n ∷ [])
 map_next f n = ap (λ (k : ℕ). map f (numbers_below k)) (add-one n) ∙ ap (map f) (below_suc n) ∙ map-append f (numbers_below n) (n ∷ [])
@@ -59,17 +55,6 @@ position_filled b = padded_is 96 (held_said b) (zones_said b)
 
 pub few_zones : {b : List ℕ} {n z : ℕ} → zones_said b ≤ 96 → ByteAt b 5 n → z < n → z < 96
 few_zones {b} {n} {z} few N l = let s : n ≡ zones_said b = N.is in omega arith
-
--- both arrays keep their length
-module _ {b : List ℕ} {n z : ℕ} (few : zones_said b ≤ 96) (N : ByteAt b 5 n) (l : z ≤ n) where
-  within : z ≤ 96
-  within = let s : n ≡ zones_said b = N.is in omega arith
-
-  pub ends_size : {e : List ℕ} → e ≡ filled 192 (end_said b) (2 * z) → length e ≡ 192
-  ends_size h = filled_size 192 (end_said b) (2 * z) h (let k : z ≤ 96 = within in omega arith)
-
-  pub position_size : {e : List ℕ} → e ≡ filled 96 (held_said b) z → length e ≡ 96
-  position_size h = filled_size 96 (held_said b) z h within
 
 -- the ends of a zone are where its two words start
 module _ {b : List ℕ} {z : ℕ} {r : Zone} (Z : ZoneAt b z r) where

@@ -12,8 +12,10 @@ use borrow.Author.Tests.{eq-eqb, ne_eqb, eqb-true}
 use Rattle.model.specs.Reading.{Whole, zones_said, track_said, position_said, refusal}
 use Rattle.model.proofs.ReadingLaws.{no_row, in_range}
 use Rattle.board.proofs.Order.{whole}
-use Rattle.board.specs.declared.Board.{Board}
-use Rattle.board.specs.Given.{padded, head_said, board_said, board_refused, board_of}
+use Rattle.board.specs.declared.refusal.Refusal.{Refusal}
+use Rattle.board.specs.declared.refusal.Refusal.TheVariants.{TooShort, WrongLength, WrongVersion, OutOfRange, WrongCount, BadZone, CarrierTwice, LoosePoint, Apart}
+use Rattle.board.specs.Refusals.{refusal_number}
+use Rattle.board.specs.Given.{BoardRead, padded, head_said, board_said, board_refused, board_of}
 use Rattle.board.specs.Inner.{ByteAt}
 
 -- lists made longer by zeros
@@ -46,17 +48,30 @@ given_number b = go (eqb (refusal b) 0) refl
 
 -- how `read_into` meets it
 
-module _ (b : List ℕ) {n : ℕ} (N : n ≡ refusal b) where
-  pub refused_is : (n ≡ 0 → ⊥) → {e s : List ℕ} → e ≡ replicate 192 0 → s ≡ replicate 96 0 → ◌≡◌ {A = Board} (record { number = n; head = record { points = 0; home = 0; zones = 0 }; ends = e; position = s }) (board_of b)
-  unfolding board_refused
-  refused_is k E S = (λ i. record { number = N i; head = record { points = 0; home = 0; zones = 0 }; ends = E i; position = S i }) ∙ sym (given_refused b (λ e. k (N ∙ e)))
+-- a refusal's number isn't 0
+pub number_positive : (r : Refusal) → refusal_number r ≡ 0 → ⊥
+number_positive TooShort e = omega arith
+number_positive WrongLength e = omega arith
+number_positive WrongVersion e = omega arith
+number_positive OutOfRange e = omega arith
+number_positive WrongCount e = omega arith
+number_positive BadZone e = omega arith
+number_positive CarrierTwice e = omega arith
+number_positive LoosePoint e = omega arith
+number_positive Apart e = omega arith
 
-  pub few_zones : n ≡ 0 → zones_said b ≤ 96
-  few_zones e = (in_range b (no_row b (sym N ∙ e)).range).zones_most
+module _ (b : List ℕ) where
+  pub refused_is : (r : Refusal) → refusal_number r ≡ refusal b → board_refused (refusal_number r) ≡ board_of b
+  refused_is r N = ap board_refused N ∙ sym (given_refused b (λ e. number_positive r (N ∙ e)))
 
-  pub whole_read : n ≡ 0 → Whole b
-  whole_read e = let r = no_row b (sym N ∙ e) in whole b r.length_said_lem r.zone_count
+  module _ (N : 0 ≡ refusal b) where
+    pub few_zones : zones_said b ≤ 96
+    few_zones = (in_range b (no_row b (sym N)).range).zones_most
 
-  pub said_is : n ≡ 0 → {p h z : ℕ} {e s : List ℕ} → ByteAt b 3 p → ByteAt b 4 h → ByteAt b 5 z → e ≡ padded 192 (track_said b).ends → s ≡ padded 96 (position_said b) → ◌≡◌ {A = Board} (record { number = 0; head = record { points = p; home = h; zones = z }; ends = e; position = s }) (board_of b)
-  unfolding board_said head_said
-  said_is k P H Z E S = (λ i. record { number = 0; head = record { points = P.is i; home = H.is i; zones = Z.is i }; ends = E i; position = S i }) ∙ sym (given_said b (sym N ∙ k))
+    pub whole_read : Whole b
+    whole_read = let r = no_row b (sym N) in whole b r.length_said_lem r.zone_count
+
+    pub said_is : {p h z : ℕ} {e s : List ℕ} → ByteAt b 3 p → ByteAt b 4 h → ByteAt b 5 z → e ≡ padded 192 (track_said b).ends → s ≡ padded 96 (position_said b)
+        → ◌≡◌ {A = BoardRead} (record { number = 0; head = record { points = p; home = h; zones = z }; ends = e; position = s }) (board_of b)
+    unfolding board_said head_said
+    said_is P H Z E S = (λ i. record { number = 0; head = record { points = P.is i; home = H.is i; zones = Z.is i }; ends = E i; position = S i }) ∙ sym (given_said b (sym N))

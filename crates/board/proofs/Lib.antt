@@ -1,7 +1,7 @@
-pub mod Rows
 pub mod Turns
 pub mod Filling
 pub mod ZoneBytes
+pub mod Chains
 pub mod Repeats
 pub mod Doubling
 pub mod Together

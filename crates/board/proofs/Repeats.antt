@@ -1,22 +1,23 @@
 -- Row 7: the table of the low bytes met, zone by zone, and what it says of a zone's test. A carrier whose low byte isn't in the table stands in
 -- no earlier zone; where it is, the earlier zones tell. A zone's low byte is marked after its test, so the table is about the zones before it.
-use Prim.Native.Nat.{ℕ, ◌+◌, ◌%◌, ◌≤◌, ◌<◌}
+use Prim.Native.Nat.{ℕ, ◌+◌, ◌%◌, ◌<◌}
 use native.Mathlib.Omega.{arith}
 use native.Mathlib.Numerals.{add-one}
 use mathlib.Core.List.{List, [], ◌∷◌}
 use mathlib.Core.Path.{◌≡◌, refl, sym, ◌∙◌, ap, subst}
 use mathlib.Core.Bool.{Bool, true, false, not, ◌&&◌, ◌||◌, or-false, and-false, true≢false}
-use lib.ListN.{length, get_or, set, replicate, length-set}
+use lib.ListN.{length, get_or, set, length-set}
 use lib.Seq.{get_or-set_same, get_or-set_other}
 use lib.Dec.{eqb}
 use borrow.Author.Count.{below_more}
-use borrow.Author.Tests.{eq-eqb, ne_eqb, eqb-true, eqb-false}
+use borrow.Author.Tests.{ne_eqb, eqb-true, eqb-false}
+use Rattle.std.specs.List.{list_any, range_with_len}
 use Rattle.model.specs.Lists.{numbers_below, any_of}
 use Rattle.model.specs.Reading.{repeated, carrier_in}
 use Rattle.model.proofs.ListLaws.{any_append, below_any, below_any_false, below_suc}
 use Rattle.board.specs.declared.input.Zone.{Zone}
 use Rattle.board.specs.Inner.{ZoneAt, stood_before}
-use Rattle.board.proofs.Turns.{NoneYet}
+use Rattle.board.proofs.Chains.{any_listed, range_listed}
 
 -- the low byte of zone y's carrier is in the table, and that of a free zone too
 abbrev Marked : List ℕ → List Bool → ℕ → Type 0
@@ -26,9 +27,6 @@ Marked b seen y = get_or seen (carrier_in b y % 256) false ≡ true
 pub record Seen (b : List ℕ) (seen : List Bool) (z : ℕ) : Type 0 where
   pub size : length seen ≡ 256
   pub marked : (y : ℕ) → y < z → Marked b seen y
-
-pub seen_first : (b : List ℕ) → Seen b (replicate 256 false) 0
-seen_first b = record { size = refl; marked = λ y l. absurd (omega arith) }
 
 module _ {b : List ℕ} {seen : List Bool} {z : ℕ} {r : Zone} (S : Seen b seen z) (Z : ZoneAt b z r) where
   pub seen_next : Seen b (set seen (r.carrier % 256) true) (z + 1)
@@ -60,19 +58,12 @@ module _ {b : List ℕ} {seen : List Bool} {z : ℕ} {r : Zone} (S : Seen b seen
       other : (y : ℕ) → y < z → carrier_in b y ≡ r.carrier → ⊥
       other y l q = true≢false (sym (S.marked y l) ∙ ap (λ (c : ℕ). get_or seen (c % 256) false) q ∙ e)
 
--- going through the zones before z: one that has the carrier is met, or the end
-pub stood_met : {b : List ℕ} {c y z : ℕ} {r : Zone} → ZoneAt b y r → y < z → r.carrier ≡ c → true ≡ stood_before b c z
+-- the chain over the zones before z
+pub stood_any : (b : List ℕ) (c z : ℕ) → list_any (λ y. eqb (carrier_in b y) c) (range_with_len 0 z) ≡ stood_before b c z
 unfolding stood_before
-stood_met {b} {c} {y} {z} Y l e = sym (below_any (λ x. eqb (carrier_in b x) c) z y l (eq-eqb (carrier_in b y) c (sym Y.carrier_is ∙ e)))
-
-pub stood_none : (b : List ℕ) (c : ℕ) {y z : ℕ} → NoneYet (λ x. eqb (carrier_in b x) c) z y → z ≤ y → false ≡ stood_before b c z
-unfolding stood_before
-stood_none b c {y} {z} none l = sym (below_any_false (λ x. eqb (carrier_in b x) c) z (λ x k. none.none_yet x (omega arith)))
+stood_any b c z = any_listed (λ y. eqb (carrier_in b y) c) (range_with_len 0 z) ∙ ap (any_of (λ y. eqb (carrier_in b y) c)) (range_listed 0 z)
 
 module _ {b : List ℕ} {z : ℕ} {r : Zone} (Z : ZoneAt b z r) where
-  pub another : {c : ℕ} → (r.carrier ≡ c → ⊥) → eqb (carrier_in b z) c ≡ false
-  another {c} n = ne_eqb (carrier_in b z) c (λ e. n (Z.carrier_is ∙ e))
-
   repeated_is : repeated b z ≡ (not (eqb r.carrier 0) && stood_before b r.carrier z)
   unfolding repeated stood_before
   repeated_is = ap (λ (x : ℕ). not (eqb x 0) && any_of (λ y. eqb (carrier_in b y) x) (numbers_below z)) (sym Z.carrier_is)

@@ -18,10 +18,10 @@ use Rattle.model.proofs.WordLaws.{rev_below}
 use Rattle.model.proofs.LabelLaws.{parts_linked, linked_parts}
 use Rattle.model.proofs.ReadingLaws.{in_range, start_in, start_said}
 use Rattle.bits.specs.Sets.{has_bit}
-use Rattle.reach.specs.Ways.{Ways, Reach, WaysOver, Grown}
+use Rattle.reach.specs.Ways.{Reach, WaysOver, Grown}
 use Rattle.reach.specs.Ways.Reach.{here as stays, on}
 use Rattle.reach.proofs.WayLaws.{added}
-use Rattle.reach.proofs.OverLaws.{over_none, over_added, over_ways, over_same}
+use Rattle.reach.proofs.OverLaws.{over_none, over_added, over_same}
 use Rattle.reach.proofs.LinkedLaws.{reach_linked, linked_reach}
 use Rattle.reach.proofs.ReachedLaws.{size_reached, reached_size}
 use Rattle.board.proofs.Filling.{first_end, second_end}
@@ -73,24 +73,9 @@ ways_zone {b} {ways} {next} {last} {z} {r} L Z i j e f = subst (WaysOf b last) (
     there : WaysOf b next (2 * z + 1)
     there = ways_next b L (first_end Z) second_back i e
 
-pub ways_last : {b ways : List ℕ} {n z : ℕ} → ByteAt b 5 n → z ≤ n → n ≤ z → WaysOf b ways (2 * z) → WaysOf b ways (2 * zones_said b)
-ways_last {b} {ways} {n} {z} N i j = subst (λ (x : ℕ). WaysOf b ways (2 * x)) (let s : n ≡ zones_said b = N.is in let q : z ≡ zones_said b = omega arith in q)
-
 module _ {b ways : List ℕ} (I : Inside b) (L : WaysOf b ways (2 * zones_said b)) where
-  pub home_in_ways : {h : ℕ} → ByteAt b 4 h → h < length ways
-  home_in_ways {h} H =
-      let e : h ≡ home_said b = H.is in
-      let s : length ways ≡ 64 = L.long in
-      let i : home_said b < points_said b = I.home_in in
-      let m : points_said b ≤ 64 = I.points_most in
-      omega arith
-
   leave_in : (w : ℕ) → w < 2 * zones_said b → end_said b (rev w) < points_said b
   leave_in w l = I.word_in (rev w) (rev_below (zones_said b) w l)
-
-  pub ways_inside : Ways ways
-  ways_inside = over_ways (end_said b) (λ v. end_said b (rev v)) (λ v. true) (2 * zones_said b) ways L
-      (λ w l. let h : end_said b (rev w) < points_said b = leave_in w l in let m : points_said b ≤ 64 = I.points_most in omega arith)
 
   start_inside : (w : ℕ) → w < 2 * (track_said b).zones → start (track_said b) w < (track_said b).points
   unfolding track_said

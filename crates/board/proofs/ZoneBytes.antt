@@ -2,20 +2,16 @@
 -- A zone more than z has room for the zone z.
 use Prim.Native.Nat.{ℕ, suc, ◌+◌, ◌-◌, ◌*◌, ◌≤◌, ◌<◌}
 use native.Mathlib.Omega.{arith}
-use native.Mathlib.Nat.{add-zero, mul-suc, mul-le-mul, mul-le-mul_left}
+use native.Mathlib.Nat.{add-zero, mul-suc, mul-le-mul_left}
 use mathlib.Core.List.{List}
 use mathlib.Core.Path.{◌≡◌, sym, ◌∙◌, ap, ap₂}
 use mathlib.Core.Bool.{Bool, true, false}
 use lib.ListN.{length}
 use Rattle.model.specs.Layout.{stride}
-use Rattle.model.specs.Reading.{Whole, byte, wide, zone_from, zones_said, end_a, heading_in}
+use Rattle.model.specs.Reading.{byte, wide, zone_from, zones_said, end_a, heading_in}
 use Rattle.model.proofs.ReadingLaws.{carrier_wide, carrier_narrow}
-use Rattle.model.proofs.LayoutLaws.{five, four, stride_least, stride_most}
+use Rattle.model.proofs.LayoutLaws.{five, four, stride_least}
 use Rattle.board.specs.Inner.{ByteAt, ZoneIn, ZoneAt}
-
--- so many zones have few bytes
-pub times_byte : (w : Bool) {n : ℕ} → n < 256 → stride w * n ≤ 1275
-times_byte w {n} l = mul-le-mul (stride_most w) (let g : n ≤ 255 = omega arith in g)
 
 module _ {b : List ℕ} {w : Bool} {z : ℕ} (I : ZoneIn b w z) where
   stride_is : stride w ≡ stride (wide b)
@@ -38,9 +34,6 @@ module _ {b : List ℕ} {w : Bool} {z : ℕ} (I : ZoneIn b w z) where
 
     pub wide_room : w ≡ true → f + 5 ≤ length b
     wide_room e = omega (arith, zone_fits, five e)
-
-    pub from_small : f ≤ 1281
-    from_small = omega (arith, times_byte w I.few)
 
     -- what the bytes that were read say
     module _ {x y u v : ℕ} (A : ByteAt b f x) (B : ByteAt b (f + 1) y) (C : ByteAt b (f + 2) u) (D : ByteAt b (f + 3) v) where
@@ -77,14 +70,3 @@ module _ {b : List ℕ} {w : Bool} {z : ℕ} (I : ZoneIn b w z) where
         carrier_small = omega (arith, C.small, D.small);
         heading_small = H.small;
       }
-
--- a zone before one of the zones
-pub zone_before : {b : List ℕ} {w : Bool} {y z : ℕ} → ZoneIn b w z → y < z → ZoneIn b w y
-zone_before {y = y} {z} I l = let i = I.inside in let f = I.few in record { whole = I.whole; version = I.version; inside = omega arith; few = omega arith }
-
--- a zone that a loop over all of them has come to
-pub zone_in : {b : List ℕ} {w : Bool} {n z : ℕ} → Whole b → w ≡ wide b → ByteAt b 5 n → z < n → ZoneIn b w z
-zone_in {b} {n = n} {z} whole W N l =
-    let e : n ≡ zones_said b = N.is in
-    let k : n < 256 = N.small in
-    record { whole = whole; version = W; inside = omega arith; few = omega arith }

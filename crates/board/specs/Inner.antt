@@ -1,10 +1,10 @@
--- What the reader's inner functions say: of one byte, of a zone's bytes in either version, of rows 8 and 9 at once, and of the ways and the points
--- where two words start.
+-- What the reader's inner functions say: of one byte, of a zone's bytes in either version, of rows 1 to 5 and of rows 8 and 9 at once, and of the
+-- ways and the points where two words start.
 -- Nothing outside this crate speaks of these.
 use Rattle.std.specs.Prelude.{ℕ, ◌*◌, ◌≤◌, ◌<◌, List, map, ◌≡◌, Bool, true, cond, leb, eqb}
 use Rattle.model.specs.Lists.{numbers_below, any_of, how_many}
 use Rattle.model.specs.Track.{rev}
-use Rattle.model.specs.Reading.{Whole, byte, end_a, end_b, carrier_in, heading_in, wide, end_said, points_said, home_said, zones_said, under_two, apart}
+use Rattle.model.specs.Reading.{Whole, byte, end_a, end_b, carrier_in, heading_in, wide, end_said, points_said, home_said, zones_said, too_short, wrong_length, wrong_version, out_of_range, wrong_count, under_two, apart}
 use Rattle.bits.specs.Sets.{has_bit}
 use Rattle.reach.specs.Ways.{WaysOver}
 use Rattle.board.specs.declared.input.Zone.{Zone}
@@ -33,6 +33,10 @@ pub record ZoneAt (b : List ℕ) (z : ℕ) (r : Zone) : Type 0 where
 -- carrier c stands in a zone before z
 unfoldable pub stood_before : List ℕ → ℕ → ℕ → Bool
 stood_before b c z = any_of (λ y. eqb (carrier_in b y) c) (numbers_below z)
+
+-- rows 1 to 5
+unfoldable pub head_refusal : List ℕ → ℕ
+head_refusal b = cond (too_short b) 1 (cond (wrong_length b) 2 (cond (wrong_version b) 3 (cond (out_of_range b) 4 (cond (wrong_count b) 5 0))))
 
 -- rows 8 and 9, where none before them holds
 unfoldable pub link_refusal : List ℕ → ℕ

@@ -1,2 +1,4 @@
 pub mod Given
+pub mod Refusals
 pub mod Inner
+pub mod OnBoard

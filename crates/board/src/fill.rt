@@ -3,7 +3,7 @@ ghost use Rattle.std.specs.Prelude.{◌≤◌, ◌≡◌, replicate};
 ghost use Rattle.model.specs.Reading.{Whole, zones_said, track_said, position_said};
 ghost use Rattle.board.specs.Given.{padded};
 
-use crate::input::{byte, is_wide, zone_at};
+use crate::input::{Entries, byte, is_wide, zone_at};
 
 pub fn arrays(bytes: &[u8], ends: &mut [usize], position: &mut [u32])
     requires whole { Whole bytes.now × (zones_said bytes.now ≤ 96) }
@@ -12,13 +12,14 @@ pub fn arrays(bytes: &[u8], ends: &mut [usize], position: &mut [u32])
     ensures position_after { position.new ≡ padded 96 (position_said bytes.now) }
 {
     let zones = byte(bytes, 5);
-    let wide = is_wide(bytes);
-    let mut z = 0;
-    while z < zones {
-        let said = zone_at(bytes, wide, z);
+    let entries = Entries {
+        bytes,
+        wide: is_wide(bytes),
+    };
+    for z in 0..zones {
+        let said = zone_at(&entries, z);
         ends[2 * z] = said.a;
         ends[2 * z + 1] = said.b;
         position[z] = (2 * said.carrier + said.heading) as u32;
-        z += 1;
     }
 }

@@ -3,8 +3,10 @@ ghost use Rattle.std.specs.Prelude.{◌*◌, ◌^◌, ◌<◌, ◌≡◌, replic
 ghost use Rattle.std.specs.Int.Bits.{bit_or, bit_and};
 ghost use Rattle.model.specs.Reading.{Whole, zones_said};
 ghost use Rattle.board.specs.Inner.{Inside, WaysOf, Doubled, link_refusal};
+ghost use Rattle.board.specs.Refusals.{number_of};
 
-use crate::input::{byte, is_wide, zone_at};
+use crate::input::{Entries, byte, is_wide, zone_at};
+use crate::refusal::Refusal;
 
 // `twice` with point p, if it is in `once`.
 fn add_second(once: u64, twice: u64, p: usize) -> u64
@@ -20,12 +22,14 @@ fn add_ways(bytes: &[u8], ways: &mut [u64]) -> u64
     ensures { WaysOf bytes.now ways.new (2 * zones_said bytes.now) × Doubled bytes.now result }
 {
     let zones = byte(bytes, 5);
-    let wide = is_wide(bytes);
+    let entries = Entries {
+        bytes,
+        wide: is_wide(bytes),
+    };
     let mut once = 0;
     let mut twice = 0;
-    let mut z = 0;
-    while z < zones {
-        let said = zone_at(bytes, wide, z);
+    for z in 0..zones {
+        let said = zone_at(&entries, z);
         let a = said.a;
         let b = said.b;
         twice = add_second(once, twice, a);
@@ -34,16 +38,15 @@ fn add_ways(bytes: &[u8], ways: &mut [u64]) -> u64
         once = bits::with(once, b);
         reach::add_way(ways, a, b);
         reach::add_way(ways, b, a);
-        z += 1;
     }
     twice
 }
 
-// The number of the first of the two rows that holds, else 0. Over the ways of all words, home reaches another number of points than there
+// The first of the two rows that holds. Over the ways of all words, home reaches another number of points than there
 // are where they don't hang together.
-pub fn refusal(bytes: &[u8]) -> u32
+pub fn check(bytes: &[u8]) -> Result<(), Refusal>
     requires { Whole bytes.now × Inside bytes.now }
-    ensures { result ≡ link_refusal bytes.now }
+    ensures { number_of result ≡ link_refusal bytes.now }
 {
     let points = byte(bytes, 3);
     let home = byte(bytes, 4);
@@ -51,11 +54,11 @@ pub fn refusal(bytes: &[u8]) -> u32
     let twice = add_ways(bytes, &mut ways);
     let under_two = bits::minus(bits::all(points), bits::with(twice, home));
     if under_two != 0 {
-        return 8;
+        return Err(Refusal::LoosePoint);
     }
     let reached = reach::grow(&ways, home);
     if bits::size(reached) != points {
-        return 9;
+        return Err(Refusal::Apart);
     }
-    0
+    Ok(())
 }

@@ -2,75 +2,59 @@
 ghost use Rattle.std.specs.Prelude.{◌≡◌};
 ghost use Rattle.model.specs.Reading.{Whole, zone_refusal, bad_zone};
 ghost use Rattle.board.specs.Inner.{ZoneIn, stood_before};
+ghost use Rattle.board.specs.Refusals.{number_of};
 
-use crate::input::{byte, is_wide, zone_at};
+use crate::input::{Entries, byte, is_wide, zone_at};
+use crate::refusal::Refusal;
 
 // Row 6, of one zone: an end not below P, heading over 1, or free with heading 1.
-fn bad(bytes: &[u8], wide: bool, z: usize) -> bool
-    requires { ZoneIn bytes.now wide z }
-    ensures { result ≡ bad_zone bytes.now z }
+#[tactic(auto, using(std::proofs::lemmas::Bool::Decides::nat_tests), unfolding(model::specs::Reading::bad_zone))]
+fn bad(entries: &Entries, z: usize) -> bool
+    requires { ZoneIn entries.now.bytes.now entries.now.wide z }
+    ensures { result ≡ bad_zone entries.now.bytes.now z }
 {
-    let points = byte(bytes, 3);
-    let said = zone_at(bytes, wide, z);
-    if points <= said.a {
-        return true;
-    }
-    if points <= said.b {
-        return true;
-    }
-    if 1 < said.heading {
-        return true;
-    }
-    if said.carrier != 0 {
-        return false;
-    }
-    said.heading == 1
+    let points = byte(entries.bytes, 3);
+    let said = zone_at(entries, z);
+    points <= said.a
+        || points <= said.b
+        || 1 < said.heading
+        || said.carrier == 0 && said.heading == 1
 }
 
 // Whether a carrier stands in a zone before z.
-fn stood_before(bytes: &[u8], wide: bool, z: usize, carrier: usize) -> bool
-    requires { ZoneIn bytes.now wide z }
-    ensures { result ≡ stood_before bytes.now carrier z }
+fn stood_before(entries: &Entries, z: usize, carrier: usize) -> bool
+    requires { ZoneIn entries.now.bytes.now entries.now.wide z }
+    ensures { result ≡ stood_before entries.now.bytes.now carrier z }
 {
-    let mut y = 0;
-    while y < z {
-        let said = zone_at(bytes, wide, y);
-        if said.carrier == carrier {
-            return true;
-        }
-        y += 1;
-    }
-    false
+    (0..z).any(|y| zone_at(entries, y).carrier == carrier)
 }
 
-// The number of the first of the two rows that holds, else 0. The table says of each low byte whether a zone before z has it; only where
+// The first of the two rows that holds. The table says of each low byte whether a zone before z has it; only where
 // one does are those zones gone through.
-pub fn refusal(bytes: &[u8]) -> u32
+pub fn check(bytes: &[u8]) -> Result<(), Refusal>
     requires { Whole bytes.now }
-    ensures { result ≡ zone_refusal bytes.now }
+    ensures { number_of result ≡ zone_refusal bytes.now }
 {
     let zones = byte(bytes, 5);
-    let wide = is_wide(bytes);
+    let entries = Entries {
+        bytes,
+        wide: is_wide(bytes),
+    };
     let mut seen = [false; 256];
     let mut repeated = false;
-    let mut z = 0;
-    while z < zones {
-        if bad(bytes, wide, z) {
-            return 6;
+    for z in 0..zones {
+        if bad(&entries, z) {
+            return Err(Refusal::BadZone);
         }
-        let said = zone_at(bytes, wide, z);
-        let carrier = said.carrier;
+        let carrier = zone_at(&entries, z).carrier;
         let low = carrier % 256;
-        if carrier != 0 && seen[low] {
-            if stood_before(bytes, wide, z, carrier) {
-                repeated = true;
-            }
+        if carrier != 0 && seen[low] && stood_before(&entries, z, carrier) {
+            repeated = true;
         }
         seen[low] = true;
-        z += 1;
     }
     if repeated {
-        return 7;
+        return Err(Refusal::CarrierTwice);
     }
-    0
+    Ok(())
 }

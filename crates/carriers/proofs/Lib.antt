@@ -1,4 +1,4 @@
-pub mod Outs
+pub mod SortLaws
+pub mod HeldLaws
 pub mod Sorting
-pub mod Counting
-pub mod Storing
+pub mod Writing

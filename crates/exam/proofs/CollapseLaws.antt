@@ -78,6 +78,3 @@ module _ {t : Track} {p : Position} (ready : Ready t p) {list list' : List ℕ} 
 
   pub named_written : take listed list' ≡ named t p
   named_written = ap (take listed) given.list_is ∙ take_at (collapse_in t p (length list)).list _ listed (sym given.listed_is) ∙ answer
-
-  pub named_fits : listed ≤ length list
-  named_fits = omega (arith, named_counted, named_most t p ready.bounded.laid)

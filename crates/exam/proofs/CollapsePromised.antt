@@ -13,22 +13,20 @@ use Rattle.model.proofs.BoolLaws.{decided}
 use Rattle.model.specs.Lists.{Ascending}
 use Rattle.model.specs.Track.{Track}
 use Rattle.model.specs.Position.{Position, outs}
-use Rattle.model.specs.Reading.{Bytes, refusal, track_said, position_said}
+use Rattle.model.specs.Reading.{refusal, track_said, position_said}
 use Rattle.rules.specs.Routes.{Blocked}
 use Rattle.rules.specs.Key.{KeyAnswer, key_for_by, named}
 use Rattle.rules.specs.Collapse.{CollapseAnswer, collapse_in, collapse_of}
 use Rattle.order.proofs.Named.{named_iff_blocked, named_ascending}
 use Rattle.demands.specs.Demands.{NamedRight}
 use Rattle.demands.proofs.NamedMet.{named_right}
-use Rattle.board.specs.declared.Board.{Board}
-use Rattle.board.specs.Given.{board_of}
+use Rattle.board.specs.OnBoard.{OnBoard}
 use Rattle.model.specs.Accepted.{Ready}
 use Rattle.exam.specs.Parsed.{CollapseGiven}
 use Rattle.exam.specs.Operations.{CollapsePromise}
 use Rattle.exam.proofs.CollapseLaws.{collapse_short, named_counted, named_written}
 use Rattle.exam.proofs.KeyLaws.{key_drawn}
-use Rattle.model.proofs.ReadingLaws.{ready_said, if_accepted, if_refused}
-use Rattle.board.proofs.ReadBoard.{track_read, position_read, Said, number_read}
+use Rattle.model.proofs.ReadingLaws.{if_accepted, if_refused}
 
 module _ (b : List ℕ) (room : ℕ) where
   collapse_refused_board : (refusal b ≡ 0 → ⊥) → collapse_of b room ≡ record { number = refusal b; list = [] }
@@ -48,17 +46,16 @@ long_enough t p {list} {number = number} given zero = ⊎_elim short (ltb-false 
         let e = ap (λ (a : CollapseAnswer). a.number) (collapse_short t p (length list) (ltb-true (length list) (length (outs p)) h)) in
         absurd (omega (arith, given.number_is))
 
-pub collapse_turned_back : (b list : List ℕ) {r : Board} → r ≡ board_of b → (r.number ≡ 0 → ⊥) → CollapsePromise b list r.number 0 list
-collapse_turned_back b list {r} e n =
-    let m : r.number ≡ refusal b = number_read b e in
-    let a = collapse_refused_board b (length list) (λ k. n (m ∙ k)) in
+pub collapse_turned_back : (b list : List ℕ) {number : ℕ} → (refusal b ≡ 0 → ⊥) → number ≡ refusal b → CollapsePromise b list number 0 list
+collapse_turned_back b list n m =
+    let a = collapse_refused_board b (length list) n in
     record {
       given = record { number_is = rw a m; listed_is = rw a; list_is = rw a };
-      same = λ k. absurd (n k);
-      same_count = λ k. absurd (n k);
-      blocked = λ k. absurd (n k);
-      ascending = λ k. absurd (n k);
-      named = λ k. absurd (n k);
+      same = λ k. absurd (n (sym m ∙ k));
+      same_count = λ k. absurd (n (sym m ∙ k));
+      blocked = λ k. absurd (n (sym m ∙ k));
+      ascending = λ k. absurd (n (sym m ∙ k));
+      named = λ k. absurd (n (sym m ∙ k));
     }
 
 promised : (b : List ℕ) {list list' : List ℕ} {number listed : ℕ} → refusal b ≡ 0 → Ready (track_said b) (position_said b) → CollapseGiven (collapse_in (track_said b) (position_said b) (length list)) list number listed list' → CollapsePromise b list number listed list'
@@ -84,7 +81,7 @@ promised b {list} {list'} {number} {listed} none ready given =
     of_named P h zero = subst P (sym (written zero)) h
 
 -- the inner collapse's answer on what was read
-pub collapse_promised : {b list list' : List ℕ} {r : Board} {number listed : ℕ} → Bytes b → Said b r → CollapseGiven (collapse_in (track_read r) (position_read r) (length list)) list number listed list' → CollapsePromise b list number listed list'
-collapse_promised {b} {list} {list'} {r} {number} {listed} small s given =
-    promised b s.accepted (ready_said b small s.accepted)
-    (subst₂ (λ (t : Track) (p : Position). CollapseGiven (collapse_in t p (length list)) list number listed list') s.track s.position given)
+pub collapse_promised : {b list list' : List ℕ} {t : Track} {p : Position} {number listed : ℕ} → OnBoard b t p → CollapseGiven (collapse_in t p (length list)) list number listed list' → CollapsePromise b list number listed list'
+collapse_promised {b} {list} {list'} {number = number} {listed} on given =
+    promised b on.accepted (subst₂ Ready on.track on.position on.ready)
+    (subst₂ (λ (t : Track) (p : Position). CollapseGiven (collapse_in t p (length list)) list number listed list') on.track on.position given)

@@ -17,7 +17,7 @@ use Rattle.order.proofs.Named.{last_within}
 use Rattle.order.proofs.Sizes.{named_most}
 use Rattle.carriers.specs.Listing.{Listable, Listed}
 use Rattle.search.specs.declared.Sent.{Sent}
-use Rattle.search.specs.Sending.{Sendable, SentHome}
+use Rattle.search.specs.Sending.{SentHome}
 use Rattle.model.specs.Accepted.{Ready}
 use Rattle.exam.specs.Parsed.{KeyGiven, summary_of, searched_of, position_left}
 use Rattle.exam.proofs.KeyLaws.{verdict_goes, key_10, key_11, key_for_lem}
@@ -43,9 +43,6 @@ pub enough : {zones : ℕ} {p plan list : List ℕ} {out : ℕ} → out ≡ leng
 enough {zones} {p} {plan} counted h k = record { for_plan = subst (λ (n : ℕ). n * (2 + 2 * zones) ≤ length plan) counted h; for_list = omega arith }
 
 module _ {t : Track} {p plan list : List ℕ} (room : Enough t.zones p plan list) where
-  pub sendable : Ready t p → Sendable t p plan
-  sendable ready = record { bounded = ready.bounded; carriers_small = λ z. omega (arith, ready.limited z); room = room.for_plan }
-
   module _ {p' plan' : List ℕ} {answer : Sent} (sent : SentHome t p plan p' plan' answer) where
     outs_last : outs p' ≡ named t p
     unfolding named_by

@@ -16,16 +16,6 @@ use Rattle.model.proofs.ReadingLaws.{refusal_small, if_accepted, if_refused}
 use Rattle.rules.specs.Key.{verdict_of, KeyAnswer, turned_back, turns_back, key_for, key_in, key_in_by, key_of, key_of_by}
 use Rattle.exam.specs.Operations.{Drawn}
 
--- the verdict by whether some are blocked
-
-pub verdict_none : (l : List ℕ) → length l ≡ 0 → 0 ≡ verdict_of l
-verdict_none [] e = refl
-verdict_none (c ∷ l) e = absurd (omega arith)
-
-pub verdict_some : (l : List ℕ) → (length l ≡ 0 → ⊥) → 20 ≡ verdict_of l
-verdict_some [] n = absurd (n refl)
-verdict_some (c ∷ l) n = refl
-
 -- no verdict is one of 1 to 11
 pub verdict_goes : (l : List ℕ) → turns_back (verdict_of l) ≡ false
 verdict_goes [] = refl

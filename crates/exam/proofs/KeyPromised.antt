@@ -12,7 +12,7 @@ use Rattle.model.specs.Lists.{overwritten}
 use Rattle.model.specs.declared.Summary.{Summary}
 use Rattle.model.specs.Track.{Track}
 use Rattle.model.specs.Position.{Position}
-use Rattle.model.specs.Reading.{Bytes, refusal, track_said, position_said}
+use Rattle.model.specs.Reading.{refusal, track_said, position_said}
 use Rattle.rules.specs.Routes.{Blocked}
 use Rattle.rules.specs.Key.{KeyAnswer, turns_back, named, key_for, key_for_by, key_in, key_of}
 use Rattle.rules.specs.SearchCount.{searched}
@@ -23,35 +23,31 @@ use Rattle.alone.proofs.NeverOne.{never_one, some_is_two}
 use Rattle.demands.specs.Demands.{KeyRight, NamedRight}
 use Rattle.demands.proofs.KeyMet.{key_right}
 use Rattle.demands.proofs.NamedMet.{named_right}
-use Rattle.board.specs.declared.Board.{Board}
-use Rattle.board.specs.Given.{board_of}
+use Rattle.board.specs.OnBoard.{OnBoard}
 use Rattle.model.specs.Accepted.{Ready}
 use Rattle.exam.specs.Parsed.{KeyGiven, summary_of, searched_of}
 use Rattle.exam.specs.Operations.{Drawn, KeyPromise}
 use Rattle.exam.proofs.KeyLaws.{verdict_goes, refused_turns_back, key_refused, key_read, key_drawn}
-use Rattle.model.proofs.ReadingLaws.{accepted_track, ready_said}
-use Rattle.board.proofs.ReadBoard.{track_read, position_read, Said, number_read}
+use Rattle.model.proofs.ReadingLaws.{accepted_track}
 
--- what is said of a board that is turned back
-pub summary_turned_back : (b : List ℕ) {r : Board} → r ≡ board_of b → (r.number ≡ 0 → ⊥) → ◌≡◌ {A = Summary} (record { points = 0; zones = 0; out = 0 }) (summary_of (track_said b) (position_said b) r.number)
-summary_turned_back b {r} e n =
-    let m : r.number ≡ refusal b = number_read b e in
-    rw (ap turns_back m ∙ refused_turns_back b (λ k. n (m ∙ k)))
+module _ (b : List ℕ) (n : refusal b ≡ 0 → ⊥) {number : ℕ} (m : number ≡ refusal b) where
+  -- what is said of a board that is turned back
+  pub summary_turned_back : ◌≡◌ {A = Summary} (record { points = 0; zones = 0; out = 0 }) (summary_of (track_said b) (position_said b) number)
+  summary_turned_back = rw (ap turns_back m ∙ refused_turns_back b n)
 
-pub key_turned_back : (b plan list : List ℕ) {r : Board} → r ≡ board_of b → (r.number ≡ 0 → ⊥) → KeyPromise b plan list r.number 0 0 0 plan list
-key_turned_back b plan list {r} e n =
-    let m : r.number ≡ refusal b = number_read b e in
-    let a = key_refused b (length plan) (length list) (λ k. n (m ∙ k)) in
-    record {
-      given = record { verdict_is = rw a m; planned_is = rw a; listed_is = rw a; plan_is = rw a; list_is = rw a };
-      right = λ d. absurd (n (m ∙ d.accepted));
-      named = λ d. absurd (n (m ∙ d.accepted));
-      never_one = λ k. absurd (n (m ∙ k));
-      two_blocked = λ d. absurd (n (m ∙ d.accepted));
-      searched_is = rw (ap turns_back m ∙ refused_turns_back b (λ k. n (m ∙ k)));
-      counted = λ d. absurd (n (m ∙ d.accepted));
-      most = omega arith;
-    }
+  pub key_turned_back : (plan list : List ℕ) → KeyPromise b plan list number 0 0 0 plan list
+  key_turned_back plan list =
+      let a = key_refused b (length plan) (length list) n in
+      record {
+        given = record { verdict_is = rw a m; planned_is = rw a; listed_is = rw a; plan_is = rw a; list_is = rw a };
+        right = λ d. absurd (n d.accepted);
+        named = λ d. absurd (n d.accepted);
+        never_one = λ k. absurd (n k);
+        two_blocked = λ d. absurd (n d.accepted);
+        searched_is = rw (ap turns_back m ∙ refused_turns_back b n);
+        counted = λ d. absurd (n d.accepted);
+        most = omega arith;
+      }
 
 -- what was written is read back by its length
 pub read_back : (written lent : List ℕ) {n : ℕ} {l : List ℕ} → n ≡ length written → l ≡ overwritten written lent → take n l ≡ written
@@ -105,14 +101,15 @@ promised b plan list {plan'} {list'} {verdict} {planned} {listed} {n} none ready
     two = some_is_two (track_said b) (accepted_track b none) (position_said b) ready.bounded.laid
 
 -- the inner key's answer on what was read
-pub key_promised : {b plan list plan' list' : List ℕ} {r : Board} {verdict planned listed n : ℕ} → Bytes b → Said b r
-    → KeyGiven (key_in (track_read r) (position_read r) (length plan) (length list)) plan list verdict planned listed plan' list' → n ≡ searched_of (track_read r) (position_read r) verdict
-    → KeyPromise b plan list verdict planned listed n plan' list'
-key_promised {b} {plan} {list} {plan'} {list'} {r} {verdict} {planned} {listed} {n} small s given counts =
-    promised b plan list s.accepted (ready_said b small s.accepted)
-    (subst (λ (a : KeyAnswer). KeyGiven a plan list verdict planned listed plan' list') (sym (key_read b (length plan) (length list) s.accepted))
-    (subst₂ (λ (t : Track) (p : Position). KeyGiven (key_in t p (length plan) (length list)) plan list verdict planned listed plan' list') s.track s.position given))
-    (subst₂ (λ (t : Track) (p : Position). n ≡ searched_of t p verdict) s.track s.position counts)
+module _ {b : List ℕ} {t : Track} {p : Position} (on : OnBoard b t p) where
+  pub key_promised : {plan list plan' list' : List ℕ} {verdict planned listed n : ℕ}
+      → KeyGiven (key_in t p (length plan) (length list)) plan list verdict planned listed plan' list' → n ≡ searched_of t p verdict
+      → KeyPromise b plan list verdict planned listed n plan' list'
+  key_promised {plan} {list} {plan'} {list'} {verdict} {planned} {listed} {n} given counts =
+      promised b plan list on.accepted (subst₂ Ready on.track on.position on.ready)
+      (subst (λ (a : KeyAnswer). KeyGiven a plan list verdict planned listed plan' list') (sym (key_read b (length plan) (length list) on.accepted))
+      (subst₂ (λ (t : Track) (p : Position). KeyGiven (key_in t p (length plan) (length list)) plan list verdict planned listed plan' list') on.track on.position given))
+      (subst₂ (λ (t : Track) (p : Position). n ≡ searched_of t p verdict) on.track on.position counts)
 
-pub summary_promised : {b : List ℕ} {r : Board} (verdict : ℕ) {said : Summary} → Said b r → said ≡ summary_of (track_read r) (position_read r) verdict → said ≡ summary_of (track_said b) (position_said b) verdict
-summary_promised verdict {said} s e = subst₂ (λ (t : Track) (p : Position). said ≡ summary_of t p verdict) s.track s.position e
+  pub summary_promised : (verdict : ℕ) {said : Summary} → said ≡ summary_of t p verdict → said ≡ summary_of (track_said b) (position_said b) verdict
+  summary_promised verdict {said} e = subst₂ (λ (t : Track) (p : Position). said ≡ summary_of t p verdict) on.track on.position e

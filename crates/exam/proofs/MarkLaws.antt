@@ -1,11 +1,12 @@
 -- What the marker's definition gives by the sheet's first word, and of a claim by whether anybody is blocked.
 -- The definition's tests are replaced by what they are; a claim is held against what the collapse wrote, which is the key's list.
-use Prim.Native.Nat.{ℕ, ◌≤◌, ◌<◌}
+use Prim.Native.Nat.{ℕ, ◌-◌, ◌≤◌, ◌<◌}
 use mathlib.Core.List.{List, [], ◌∷◌}
 use mathlib.Core.Path.{◌≡◌, refl, sym, ap, ◌∙◌}
 use mathlib.Core.Bool.{Bool, true, false, cond}
 use native.Mathlib.Omega.{arith}
 use lib.ListN.{length, get_or, take, drop}
+use lib.Seq.{take_all}
 use lib.Dec.{eqb}
 use borrow.Author.Tests.{eq-eqb, ne_eqb}
 use Rattle.model.specs.Track.{Track}
@@ -16,6 +17,11 @@ use Rattle.rules.specs.Sheet.{same_list, mark_claim, mark_claim_by, mark_entries
 use Rattle.model.specs.Accepted.{Ready}
 use Rattle.exam.specs.Parsed.{CollapseGiven}
 use Rattle.exam.proofs.CollapseLaws.{named_counted, named_written}
+
+-- what the code takes as the words after the first
+pub words_after : (sheet : List ℕ) → 0 < length sheet → take (length sheet - 1) (drop 1 sheet) ≡ drop 1 sheet
+words_after [] h = absurd (omega arith)
+words_after (kind ∷ ws) h = take_all (length (kind ∷ ws) - 1) ws (omega arith)
 
 -- by the sheet's first word
 

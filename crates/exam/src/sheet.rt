@@ -1,44 +1,40 @@
 // The marking of a sheet on a track and a position. The position is the caller's own copy, and what it holds at exit is free.
-ghost use Rattle.std.specs.Prelude.{◌≡◌, ◌<◌, length, drop};
-ghost use Rattle.model.specs.Track.{track_of};
+ghost use Rattle.std.specs.Prelude.{◌≡◌};
+ghost use Rattle.model.specs.Track.{track_in};
 ghost use Rattle.model.specs.Accepted.{Ready};
 ghost use Rattle.rules.specs.Sheet.{mark_claim, mark_for};
+ghost use Rattle.marker.specs.Faults.{mark_number};
 
-use crate::parsed::collapse;
-use model::Head;
+use crate::parsed::list_left;
+use marker::Fault;
+use model::Track;
 
-// A claim of blocked, from the sheet's second word on: right only with the true list, and that isn't empty.
-fn mark_claim(head: Head, ends: &[usize], position: &mut [u32], sheet: &[u16]) -> u32
-    requires { Ready (track_of head ends.now) position.old × (0 < length sheet.now) }
-    ensures { result ≡ mark_claim (track_of head ends.now) position.old (drop 1 sheet.now) }
+// A claim of blocked: right only with the true list, and that isn't empty.
+fn mark_claim(track: &Track, position: &mut [u32], claim: &[u16]) -> Result<(), Fault>
+    requires { Ready (track_in track.now) position.old }
+    ensures { mark_number result ≡ mark_claim (track_in track.now) position.old claim.now }
 {
     let mut list = [0u16; 96];
-    let left = collapse(head, ends, position, &mut list);
-    let listed = left.listed;
+    let listed = list_left(track, position, &mut list);
     let nobody = listed == 0;
     if nobody {
-        return 35;
+        return Err(Fault::FalseClaim);
     }
-    if marker::same_claim(&list, listed, sheet, 1) {
-        return 0;
+    if !marker::same_claim(&list[..listed], claim) {
+        return Err(Fault::FalseClaim);
     }
-    35
+    Ok(())
 }
 
-// The number of a sheet.
-pub fn mark(head: Head, ends: &[usize], position: &mut [u32], sheet: &[u16]) -> u32
-    requires { Ready (track_of head ends.now) position.old }
-    ensures { result ≡ mark_for (track_of head ends.now) position.old sheet.now }
+// By its first word a sheet is a plan, 0, or a claim, 1.
+// `Ready` is asked in a clause and is no struct's field: the marker promises nothing of the position that it leaves, so none could be kept.
+pub fn mark(track: &Track, position: &mut [u32], sheet: &[u16]) -> Result<(), Fault>
+    requires { Ready (track_in track.now) position.old }
+    ensures { mark_number result ≡ mark_for (track_in track.now) position.old sheet.now }
 {
-    if sheet.len() == 0 {
-        return 30;
+    match sheet {
+        [0, plan @ ..] => marker::mark_entries(track, position, plan),
+        [1, claim @ ..] => mark_claim(track, position, claim),
+        _ => Err(Fault::BadSheet),
     }
-    let kind = sheet[0];
-    if kind == 0 {
-        return marker::mark_entries(head, ends, position, sheet, 1);
-    }
-    if kind == 1 {
-        return mark_claim(head, ends, position, sheet);
-    }
-    30
 }

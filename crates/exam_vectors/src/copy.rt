@@ -1,41 +1,34 @@
 // The write, and what it gives written out.
-use crate::say::{item, nth};
+use crate::say::{items, nth};
 use std::io;
 
-fn say_bytes(rt: &impl Print, bytes: &[u8]) -> io::Result<()> {
-    for byte in bytes {
-        item(rt, *byte as u64)?;
-    }
-    Ok(())
-}
-
 fn say_write(rt: &impl Print, bytes: &[u8], sheet: &[u32], copy: &mut [u8]) -> io::Result<()> {
-    let written = writer::write(bytes, sheet, copy);
-    item(rt, written.number as u64)?;
-    print!(rt; " bytes")?;
-    item(rt, written.count as u64)?;
-    print!(rt; " copy")?;
-    say_bytes(rt, copy)
+    match writer::write(bytes, sheet, copy) {
+        Ok(count) => print!(rt; " 0 bytes {count} copy"),
+        Err(refused) => print!(rt; " {} bytes 0 copy", u32::from(refused)),
+    }?;
+    items(rt, copy)
 }
 
 // The words of the sheet by pairs of numbers, 2 × the first and the second.
 fn fill(pairs: &[u16], sheet: &mut [u32]) {
     for (z, word) in sheet.iter_mut().enumerate() {
-        let carrier = nth(pairs, 2 * z) % 65536;
-        let heading = nth(pairs, 2 * z + 1) % 65536;
-        *word = (2 * carrier + heading) as u32;
+        *word = 2 * nth(pairs, 2 * z) as u32 + nth(pairs, 2 * z + 1) as u32;
     }
 }
 
 pub fn run_write(rt: &impl Print, bytes: &[u8], numbers: &[u16]) -> io::Result<()> {
-    if numbers.len() == 0 {
+    let Some((room, pairs)) = numbers.split_first() else {
         return Ok(());
-    }
-    let mut sheet = [0u32; 4];
+    };
     // There is room for sheets of 0 to 4 words, and for 0 to 20 bytes.
-    let words = (numbers.len() - 1) / 2 % 5;
-    fill(&numbers[1..], &mut sheet);
+    let mut sheet = [0u32; 4];
+    fill(pairs, &mut sheet);
     let mut copy = [99u8; 20];
-    let room = nth(numbers, 0) % 21;
-    say_write(rt, bytes, &sheet[..words], &mut copy[..room])
+    say_write(
+        rt,
+        bytes,
+        &sheet[..pairs.len() / 2 % 5],
+        &mut copy[..*room as usize % 21],
+    )
 }

@@ -15,7 +15,5 @@ use std::io::Read;
 fn main(rt: HostRuntime) -> io::Result<()> {
     let mut text = Vec::new(rt.alloc());
     rt.reader().take(65536).read_to_end(&mut text)?;
-    let mut bytes = [0; 512];
-    let mut numbers = [0; 32];
-    line::answer_all(&rt, &text, &mut bytes, &mut numbers)
+    line::answer_all(&rt, rt.alloc(), &text)
 }

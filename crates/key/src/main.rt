@@ -22,7 +22,7 @@ fn print_key<R: Read + Drop, W: Write>(alloc: Global, input: R, output: &mut W) 
         .read_to_end(&mut board)
         .context("the board isn't read")?;
     let mut page = [0u8; 75511];
-    let length = text::key_text(&board, &mut page);
+    let length = text::key_text(&board, &mut page).unwrap();
     output
         .write_all(&page[..length])
         .context("the page isn't written")?;

@@ -1,6 +1,6 @@
 pub mod ScanLaws
-pub mod RouteLaws
 pub mod ClaimLaws
+pub mod RouteLaws
 pub mod StandingLaws
 pub mod EntryLaws
 pub mod PlanLaws

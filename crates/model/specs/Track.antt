@@ -1,6 +1,7 @@
 -- The track: what of a board never changes. Words name a zone with a direction, and every rule goes by the word.
 use Rattle.std.specs.Prelude.{ℕ, ◌+◌, ◌-◌, ◌*◌, ◌/◌, ◌%◌, ◌<◌, List, ◌≡◌, get_or}
 use Rattle.model.specs.declared.Head.{Head}
+use Rattle.model.specs.declared.Track.{Track as TrackInCode}
 
 -- points P, the home point, zones Z, and the two ends of each zone: end A of zone 0, its end B, end A of zone 1, ..
 pub record Track : Type 0 where
@@ -12,6 +13,10 @@ pub record Track : Type 0 where
 -- the track that the code's numbers and its list of ends are
 abbrev pub track_of : Head → List ℕ → Track
 track_of head ends = record { points = head.points; home = head.home; zones = head.zones; ends = ends }
+
+-- the track that the code's struct holds
+abbrev pub track_in : TrackInCode → Track
+track_in t = track_of t.head t.ends.now
 
 -- a word is 2 × zone + heading: its zone
 abbrev pub zone_of : ℕ → ℕ

@@ -1,4 +1,4 @@
-// What a board is: definitions alone, see specs/; and the numbers that its track has in code, beside the list of its ends.
+// What a board is: definitions alone, see specs/; and the structs that hold its track, and what is said of it, in code.
 #![tactic(auto)]
 
 // Points P, the home point, zones Z.
@@ -7,6 +7,13 @@ pub struct Head {
     pub points: usize,
     pub home: usize,
     pub zones: usize,
+}
+
+// The track of a board: its numbers, and the two ends of each zone, end A of zone 0 first.
+#[derive(Clone, Copy)]
+pub struct Track<'a> {
+    pub head: Head,
+    pub ends: &'a [usize],
 }
 
 // What is said of a board beside its key: points P, zones Z, carriers out C.

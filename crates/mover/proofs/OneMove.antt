@@ -1,12 +1,12 @@
 -- The move that a pair of a log says, case by case as the code finds it: a carrier that is out stands in the zone that was found, and its move is
 -- tested there; where it is allowed, the carrier's zone is freed and the one entered filled.
 -- From the laws of the tested move; to take a carrier off is to free its zone, since it stands in no other.
-use Prim.Native.Nat.{ℕ, ◌+◌, ◌*◌, ◌<◌}
+use Prim.Native.Nat.{ℕ, ◌+◌, ◌*◌}
 use mathlib.Core.Path.{◌≡◌, refl, sym, ap, ◌∙◌}
 use mathlib.Core.Bool.{Bool, true, false, cond}
 use mathlib.Core.Option.{Option, none, some}
 use native.Mathlib.Omega.{arith}
-use lib.ListN.{length, set}
+use lib.ListN.{set}
 use lib.Dec.{eqb}
 use borrow.Author.Tests.{eq-eqb, ne_eqb}
 use Rattle.model.specs.Track.{Track, zone_of, heading_of, leave}
@@ -17,9 +17,9 @@ use Rattle.rules.specs.Tries.{Move, into, home}
 use Rattle.rules.specs.Key.{zone_for}
 use Rattle.rules.specs.SingleMoves.{moves_who, zone_out, may_go_from, left_if, after_move_from, after_move}
 use Rattle.rules.proofs.Standing.{zone_stands}
-use Rattle.rules.proofs.MoveTested.{asked, after_into, after_home}
+use Rattle.rules.proofs.MoveTested.{after_into, after_home}
 use Rattle.movelog.specs.Log.{home_word, move_said}
-use Rattle.mover.specs.MoveTried.{ZoneFound, is_done, left_or, MoveTried}
+use Rattle.mover.specs.MoveTried.{is_done, left_or, MoveTried}
 
 -- the outcome of a move by what it leaves
 outcome : (t : Track) (p : Position) (m : Move) (o : Option Position) → after_move t p m ≡ o → MoveTried t p m (is_done o) (left_or p o)
@@ -50,8 +50,12 @@ not_out t p c w e = outcome t p (move_said c w) none (ap (λ (d : ℕ). after_mo
 pub zero_stays : (t : Track) (p : Position) (c w : ℕ) → c ≡ 0 → MoveTried t p (move_said c w) false p
 zero_stays t p c w e = not_out t p c w (ap (λ (b : Bool). cond b none (zone_for p c)) (eq-eqb c 0 e))
 
-pub missing_stays : (t : Track) {p : Position} {c z : ℕ} (w : ℕ) → (c ≡ 0 → ⊥) → ZoneFound p c z → z ≡ length p → MoveTried t p (move_said c w) false p
-missing_stays t {p} {c} w n f e = not_out t p c w (ap (λ (b : Bool). cond b none (zone_for p c)) (ne_eqb c 0 n) ∙ f.missing e)
+pub missing_stays : (t : Track) (p : Position) (c w : ℕ) → zone_for p c ≡ none → MoveTried t p (move_said c w) false p
+missing_stays t p c w e = not_out t p c w (go (eqb c 0))
+  where
+    go : (b : Bool) → cond b none (zone_for p c) ≡ none
+    go true = refl
+    go false = e
 
 -- a carrier that is out
 
@@ -59,8 +63,8 @@ missing_stays t {p} {c} w n f e = not_out t p c w (ap (λ (b : Bool). cond b non
 pub record OutIn (p : Position) (c z : ℕ) : Type 0 where
   pub stands : Stands p c (standing p z)
 
-pub out_in : {p : Position} {c z : ℕ} → (c ≡ 0 → ⊥) → ZoneFound p c z → (z ≡ length p → ⊥) → OutIn p c z
-out_in {p} {c} {z} numbered f n = record { stands = zone_stands p c z numbered (f.found (omega (arith, f.within))) }
+pub out_in : {p : Position} {c z : ℕ} → (c ≡ 0 → ⊥) → zone_for p c ≡ some z → OutIn p c z
+out_in {p} {c} {z} numbered found = record { stands = zone_stands p c z numbered found }
 
 module _ (t : Track) {p : Position} {c z : ℕ} (once : Once p) (out : OutIn p c z) where
   -- its zone is freed
@@ -90,7 +94,3 @@ module _ (t : Track) {p : Position} {c z : ℕ} (once : Once p) (out : OutIn p c
 
       pub into_goes : b ≡ true → MoveTried t p (move_said c w) true (set (set p z 0) (zone_of w) (2 * c + heading_of w))
       into_goes e = rw (move_into {c = c} n) (outcome t p (into c w) (some (set (set p z 0) (zone_of w) (2 * c + heading_of w))) (into_left true e))
-
-      -- the zone entered is one of the track
-      pub word_below : b ≡ true → w < 2 * t.zones
-      word_below e = (asked t p point w (sym tested ∙ e)).1

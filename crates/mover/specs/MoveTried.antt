@@ -1,17 +1,15 @@
 -- What the functions that carry out one move give.
-use Rattle.std.specs.Prelude.{ℕ, ◌≤◌, ◌<◌, ◌≡◌, Bool, true, false, length}
+use Rattle.std.specs.Prelude.{ℕ, ◌≡◌, Bool, true, false, Some, None, Option as OptionInCode}
 use Rattle.std.proofs.Math.Option.{Option, none, some}
 use Rattle.model.specs.Track.{Track}
 use Rattle.model.specs.Position.{Position}
 use Rattle.rules.specs.Tries.{Move}
-use Rattle.rules.specs.Key.{zone_for}
 use Rattle.rules.specs.SingleMoves.{after_move}
 
--- the zone found for a carrier, or as many as there are zones
-pub record ZoneFound (p : Position) (c z : ℕ) : Type 0 where
-  pub within : z ≤ length p
-  pub found : z < length p → zone_for p c ≡ some z
-  pub missing : z ≡ length p → zone_for p c ≡ none
+-- the code's option as the definitions'
+abbrev pub option_in : OptionInCode ℕ → Option ℕ
+option_in None = none
+option_in (Some z) = some z
 
 -- the outcome of a move that leaves this position, or none: whether it was done, and the position left
 abbrev pub is_done : Option Position → Bool

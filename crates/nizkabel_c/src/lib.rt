@@ -1,5 +1,6 @@
 // The static library for programs in C, C++ and Rust: the operations of `nizkabel` under C's calling convention, and nothing else.
 // include/nizkabel.h declares them. A slice is a pointer and a count of elements, an array a pointer. Each promise is the operation's own.
+// They stand apart from `nizkabel`, since a crate is a library for Rattle or one for C.
 #![tactic(auto)]
 
 ghost use Rattle.std.specs.Prelude.{get_or};

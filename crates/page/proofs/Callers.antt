@@ -5,7 +5,7 @@ use mathlib.Core.Path.{◌≡◌}
 use mathlib.Core.List.{List}
 use native.Mathlib.Nat.{le_trans}
 use borrow.Author.Tests.{lt-ltb, le-ltb, eq-eqb, ne_eqb}
-use lib.ListN.{length, take}
+use lib.ListN.{length}
 use Rattle.model.specs.declared.Summary.{Summary}
 use Rattle.model.specs.Reading.{refusal, track_said, position_said}
 use Rattle.model.proofs.ReadingLaws.{accepted_length}
@@ -17,10 +17,8 @@ use Rattle.page.proofs.PlanLaws.{is_plan, entries_in_plan}
 use Rattle.page.proofs.Bound.{SmallKey, key_page_fits}
 
 -- `entries_in_plan es written` then turns what `write_key` ensures to these entries
-pub writable : {summary : Summary} {verdict planned listed : ℕ} {plan list page : List ℕ} (es : List Entry) → take planned plan ≡ plan_words es → planned ≤ length plan → listed ≤ length list → SmallKey summary verdict es (take listed list) → PAGE ≤ length page → Writable summary verdict plan planned list listed page
-writable es written plan_in list_in small long = record {
-  plan_in = plan_in;
-  list_in = list_in;
+pub writable : {summary : Summary} {verdict : ℕ} {plan list page : List ℕ} (es : List Entry) → plan ≡ plan_words es → SmallKey summary verdict es list → PAGE ≤ length page → Writable summary verdict plan list page
+writable es written small long = record {
   is_plan = is_plan es written;
   room = rw (entries_in_plan es written) (le_trans (key_page_fits small) long);
 }

@@ -1,19 +1,20 @@
 -- Whole pages put from the first place on, and the blocked list.
 -- From the laws of texts put one after another.
-use Prim.Native.Nat.{ℕ, ◌≤◌}
+use Prim.Native.Nat.{ℕ}
 use mathlib.Core.Path.{◌≡◌, refl}
 use mathlib.Core.List.{List, [], ◌∷◌}
 use native.Mathlib.Omega.{arith}
 use lib.ListN.{length}
 use Rattle.model.specs.declared.Summary.{Summary}
 use Rattle.rules.specs.Routes.{Entry}
+use Rattle.page.specs.declared.writing.Writing.{Writing}
 use Rattle.page.specs.Page.{spelled, decimal, labelled, spaced, entry_lines, blocked_text, first_lines, key_page, refused_page}
 use Rattle.page.specs.Writing.{TextRoom}
 use Rattle.page.proofs.PutLaws.{Putting, starts}
 
-pub refused_starts : (number : ℕ) {page : List ℕ} → length (refused_page number) ≤ length page → Putting 0 (refused_page number) page (labelled (spelled "refused ") number ∷ spelled "\n" ∷ []) page 0
+pub refused_starts : (number : ℕ) {w : Writing} → TextRoom (refused_page number) w → Putting (refused_page number) w (labelled (spelled "refused ") number ∷ spelled "\n" ∷ []) w
 unfolding refused_page
-refused_starts number room = starts (labelled (spelled "refused ") number ∷ spelled "\n" ∷ []) (record { fits = omega arith })
+refused_starts number room = starts (labelled (spelled "refused ") number ∷ spelled "\n" ∷ []) room
 
 module _ (summary : Summary) (verdict : ℕ) where
   abbrev pub first_pieces : List (List ℕ)
@@ -21,7 +22,7 @@ module _ (summary : Summary) (verdict : ℕ) where
       labelled (spelled "board ") summary.points ∷ labelled (spelled " points ") summary.zones ∷ labelled (spelled " zones ") summary.out ∷
       labelled (spelled " out\nverdict ") verdict ∷ spelled "\n" ∷ []
 
-  pub first_starts : {from : ℕ} {page : List ℕ} → TextRoom from (first_lines summary verdict) page → Putting from (first_lines summary verdict) page first_pieces page from
+  pub first_starts : {w : Writing} → TextRoom (first_lines summary verdict) w → Putting (first_lines summary verdict) w first_pieces w
   unfolding first_lines
   first_starts room = starts first_pieces room
 
@@ -29,9 +30,9 @@ module _ (summary : Summary) (verdict : ℕ) where
     abbrev pub key_pieces : List (List ℕ)
     key_pieces = first_lines summary verdict ∷ entry_lines es ∷ spelled "blocked" ∷ blocked_text blocked ∷ spelled "\n" ∷ []
 
-    pub key_starts : {page : List ℕ} → length (key_page summary verdict es blocked) ≤ length page → Putting 0 (key_page summary verdict es blocked) page key_pieces page 0
+    pub key_starts : {w : Writing} → TextRoom (key_page summary verdict es blocked) w → Putting (key_page summary verdict es blocked) w key_pieces w
     unfolding key_page
-    key_starts room = starts key_pieces (record { fits = omega arith })
+    key_starts room = starts key_pieces room
 
 pub blocked_none : (list : List ℕ) → length list ≡ 0 → blocked_text list ≡ spelled " none"
 unfolding blocked_text

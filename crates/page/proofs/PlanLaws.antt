@@ -1,11 +1,12 @@
 -- The entries that a plan's words hold are those whose words they are; and the loop over a plan goes from entry to entry.
 -- `entries_of` reads back what `plan_words` writes.
-use Prim.Native.Nat.{ℕ, zero, suc, ◌+◌, ◌≤◌, ◌<◌}
-use mathlib.Core.Path.{◌≡◌, refl, sym, ap, ap₂, ◌∙◌}
+use Prim.Native.Nat.{ℕ, zero, suc, ◌-◌, ◌≤◌, ◌<◌}
+use mathlib.Core.Path.{◌≡◌, refl, ap, ap₂, ◌∙◌}
 use mathlib.Core.List.{List, [], ◌∷◌, ◌++◌}
 use native.Mathlib.Omega.{arith}
 use lib.ListN.{length, take, drop, get_or, length-append, length-drop}
-use lib.Seq.{take-append_seam, drop-append_seam, get_or-drop, drop-drop}
+use lib.Seq.{take-append_seam, drop-append_seam}
+use Rattle.std.proofs.lemmas.List.{take_all}
 use Rattle.rules.specs.Routes.{Entry}
 use Rattle.rules.specs.Key.{plan_words}
 use Rattle.page.specs.Writing.{entries_of, entries_in, IsPlan}
@@ -35,30 +36,29 @@ is_plan es e = rw e (ap plan_words (entries_of_plan es))
 pub entries_in_plan : {ws : List ℕ} (es : List Entry) → ws ≡ plan_words es → entries_in ws ≡ es
 entries_in_plan es e = rw e (entries_of_plan es)
 
--- the words from k on are those of an entry and of the rest
-pub record NextEntry (plan : List ℕ) (k : ℕ) (es : List Entry) : Type 0 where
+-- the words left are those of an entry and of the rest: its carrier, the count of its words, and after these its words and the rest's
+pub record NextEntry (left : List ℕ) (es : List Entry) : Type 0 where
   pub entry : Entry
   pub rest : List Entry
   pub split : es ≡ entry ∷ rest
-  pub carrier : get_or plan k 0 ≡ entry.carrier
-  pub count : get_or plan (k + 1) 0 ≡ length entry.words
-  pub words : (n : ℕ) → n ≡ length entry.words → take n (drop (k + 2) plan) ≡ entry.words
-  pub left : (n : ℕ) → n ≡ length entry.words → drop (k + 2 + n) plan ≡ plan_words rest
-  pub inside : k + 2 + length entry.words ≤ length plan
+  pub carrier : get_or left 0 0 ≡ entry.carrier
+  pub count : get_or left 1 0 ≡ length entry.words
+  pub after : take (length left - 2) (drop 2 left) ≡ entry.words ++ plan_words rest
 
-pub next_entry : (plan : List ℕ) (k : ℕ) (es : List Entry) → drop k plan ≡ plan_words es → k < length plan → NextEntry plan k es
+pub next_entry : (left : List ℕ) (es : List Entry) → left ≡ plan_words es → 2 ≤ length left → NextEntry left es
 unfolding plan_words
-next_entry plan k [] h i = absurd (omega (arith, length-drop k plan, ap length h))
-next_entry plan k (e ∷ es) h i =
-    let past : drop (k + 2) plan ≡ e.words ++ plan_words es = sym (drop-drop 2 k plan) ∙ ap (drop 2) h in
-    let k-first : k + 0 ≡ k = omega arith in
-    record {
-      entry = e;
-      rest = es;
-      split = refl;
-      carrier = ap (λ (j : ℕ). get_or plan j 0) (sym k-first) ∙ sym (get_or-drop k plan 0 0) ∙ ap (λ (l : List ℕ). get_or l 0 0) h;
-      count = sym (get_or-drop k plan 1 0) ∙ ap (λ (l : List ℕ). get_or l 1 0) h;
-      words = λ n same. ap₂ (λ (m : ℕ) (l : List ℕ). take m l) same past ∙ take-append_seam e.words (plan_words es);
-      left = λ n same. sym (drop-drop n (k + 2) plan) ∙ ap₂ (λ (m : ℕ) (l : List ℕ). drop m l) same past ∙ drop-append_seam e.words (plan_words es);
-      inside = omega (arith, length-drop k plan, ap length h, length-append e.words (plan_words es));
-    }
+next_entry left [] h long = absurd (omega (arith, ap length h))
+next_entry left (e ∷ es) h long = record {
+  entry = e;
+  rest = es;
+  split = refl;
+  carrier = ap (λ (l : List ℕ). get_or l 0 0) h;
+  count = ap (λ (l : List ℕ). get_or l 1 0) h;
+  after = take_all (length left - 2) (drop 2 left) (omega (arith, length-drop 2 left)) ∙ ap (drop 2) h;
+}
+
+-- fewer than two words are no entry's
+pub no_entry : (left : List ℕ) (es : List Entry) → left ≡ plan_words es → length left < 2 → es ≡ []
+unfolding plan_words
+no_entry left [] h few = refl
+no_entry left (e ∷ es) h few = absurd (omega (arith, ap length h))

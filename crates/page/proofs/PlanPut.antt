@@ -1,70 +1,61 @@
 -- A plan put, entry by entry: the loop over the plan's words.
--- `Planning` is its invariant: the words from k on are those of the entries whose lines are left to write.
-use Prim.Native.Nat.{ℕ, ◌+◌, ◌-◌, ◌≤◌, ◌<◌}
-use mathlib.Core.Path.{◌≡◌, refl, sym, ap₂, ◌∙◌}
+-- `Planning` is its invariant: the words left are those of the entries whose lines are left to write.
+use Prim.Native.Nat.{ℕ, ◌-◌, ◌≤◌, ◌<◌}
+use mathlib.Core.Path.{◌≡◌, ap, ap₂, ◌∙◌}
 use mathlib.Core.List.{List, [], ◌∷◌}
 use native.Mathlib.Omega.{arith}
-use lib.ListN.{length, take, drop, get_or, drop_of_length-le}
+use lib.ListN.{length, take, drop, get_or, length-append}
+use lib.Seq.{take-append_seam, drop-append_seam}
 use Rattle.rules.specs.Routes.{Entry}
 use Rattle.rules.specs.Key.{plan_words}
+use Rattle.page.specs.declared.writing.Writing.{Writing}
 use Rattle.page.specs.Page.{spelled, labelled, word_text, spaced, entry_line, entry_lines}
-use Rattle.page.specs.Writing.{TextRoom, Put, entries_in, IsPlan}
-use Rattle.page.proofs.PutLaws.{Putting, starts, starts_whole, room_left, goes_on_lem, goes_in, ends}
-use Rattle.page.proofs.PlanLaws.{NextEntry, next_entry}
+use Rattle.page.specs.Writing.{TextRoom, Put, entries_in}
+use Rattle.page.proofs.PutLaws.{Putting, starts, room_left, ◌then◌, goes_in, ends}
+use Rattle.page.proofs.PlanLaws.{NextEntry, next_entry, no_entry}
 
 abbrev pub entry_pieces : Entry → List (List ℕ)
 entry_pieces e = labelled (spelled "home ") e.carrier ∷ spelled ":" ∷ spaced word_text e.words ∷ spelled "\n" ∷ []
 
-pub entry_starts : (e : Entry) {from : ℕ} {page : List ℕ} → TextRoom from (entry_line e) page → Putting from (entry_line e) page (entry_pieces e) page from
+pub entry_starts : (e : Entry) {w : Writing} → TextRoom (entry_line e) w → Putting (entry_line e) w (entry_pieces e) w
 unfolding entry_line
 entry_starts e room = starts (entry_pieces e) room
 
-no_words : (es : List Entry) → [] ≡ plan_words es → es ≡ []
-unfolding plan_words
-no_words [] h = refl
-no_words (e ∷ es) h = absurd (let z : ◌≡◌ {A = ℕ} 0 1 = cc in omega arith)
-
--- the entry that the words from k on begin with, as the code reads it
-abbrev pub entry_at : List ℕ → ℕ → Entry
-entry_at plan k = record { carrier = get_or plan k 0; words = take (k + 2 + get_or plan (k + 1) 0 - (k + 2)) (drop (k + 2) plan) }
-
-pub record Planning (from : ℕ) (plan before page : List ℕ) (next k : ℕ) : Type 0 where
+pub record Planning (plan : List ℕ) (before : Writing) (left : List ℕ) (w : Writing) : Type 0 where
   pub entries : List Entry
-  pub left : drop k plan ≡ plan_words entries
-  pub inside : k ≤ length plan
-  pub going : Putting from (entry_lines (entries_in plan)) before (entry_lines entries ∷ []) page next
+  pub words : left ≡ plan_words entries
+  pub going : Putting (entry_lines (entries_in plan)) before (entry_lines entries ∷ []) w
 
-module _ {from : ℕ} {plan before : List ℕ} where
-  pub planning_starts : IsPlan plan → TextRoom from (entry_lines (entries_in plan)) before → Planning from plan before before from 0
-  planning_starts planned room = record { entries = entries_in plan; left = sym planned; inside = omega arith; going = starts_whole room }
+module _ {plan left : List ℕ} {before w : Writing} (p : Planning plan before left w) where
+  pub planning_ends : length left < 2 → Put (entry_lines (entries_in plan)) before w
+  unfolding entry_lines
+  planning_ends few = ends (goes_in [] (rw (no_entry left p.entries p.words few) at p.going))
 
-  module _ {page : List ℕ} {next k : ℕ} (p : Planning from plan before page next k) where
-    pub planning_ends : length plan ≤ k → Put from (entry_lines (entries_in plan)) before page next
+  module _ (long : 2 ≤ length left) where
+    found : NextEntry left p.entries
+    found = next_entry left p.entries p.words long
+
+    -- the words of this entry are among those left
+    pub entry_inside : get_or left 1 0 ≤ length (take (length left - 2) (drop 2 left))
+    entry_inside = omega (arith, found.count, ap length found.after, length-append found.entry.words (plan_words found.rest))
+
+    turning : Putting (entry_lines (entries_in plan)) before (entry_line found.entry ∷ entry_lines found.rest ∷ []) w
     unfolding entry_lines
-    planning_ends all = ends (goes_in [] (rw (no_words p.entries (sym (drop_of_length-le plan all) ∙ p.left)) at p.going))
+    turning = goes_in (entry_line found.entry ∷ entry_lines found.rest ∷ []) (rw found.split at p.going)
 
-    module _ (more : k < length plan) where
-      found : NextEntry plan k p.entries
-      found = next_entry plan k p.entries p.left more
+    module _ {words : List ℕ} (front : words ≡ take (get_or left 1 0) (take (length left - 2) (drop 2 left))) where
+      same_entry : record { carrier = get_or left 0 0; words = words } ≡ found.entry
+      same_entry =
+          ap₂ {C = Entry} (λ (c : ℕ) (ws : List ℕ). record { carrier = c; words = ws }) found.carrier
+          (front ∙ ap₂ (λ (n : ℕ) (l : List ℕ). take n l) found.count found.after ∙ take-append_seam found.entry.words (plan_words found.rest))
 
-      -- the words of this entry are within the plan
-      pub entry_inside : k + 2 + get_or plan (k + 1) 0 ≤ length plan
-      entry_inside = rw found.count found.inside
-
-      same_entry : entry_at plan k ≡ found.entry
-      same_entry = ap₂ {C = Entry} (λ (c : ℕ) (ws : List ℕ). record { carrier = c; words = ws }) found.carrier (found.words (k + 2 + get_or plan (k + 1) 0 - (k + 2)) (omega (arith, found.count)))
-
-      turning : Putting from (entry_lines (entries_in plan)) before (entry_line found.entry ∷ entry_lines found.rest ∷ []) page next
-      unfolding entry_lines
-      turning = goes_in (entry_line found.entry ∷ entry_lines found.rest ∷ []) (rw found.split at p.going)
-
-      pub entry_room : TextRoom next (entry_line (entry_at plan k)) page
+      pub entry_room : TextRoom (entry_line (record { carrier = get_or left 0 0; words = words })) w
       entry_room = rw same_entry (room_left turning)
 
-      pub planning_again : {after : List ℕ} {place : ℕ} → Put next (entry_line (entry_at plan k)) page after place → Planning from plan before after place (k + 2 + get_or plan (k + 1) 0)
-      planning_again put = record {
+      pub planning_again : {rest : List ℕ} {v : Writing} → rest ≡ drop (get_or left 1 0) (take (length left - 2) (drop 2 left))
+          → Put (entry_line (record { carrier = get_or left 0 0; words = words })) w v → Planning plan before rest v
+      planning_again back put = record {
         entries = found.rest;
-        left = found.left (get_or plan (k + 1) 0) found.count;
-        inside = entry_inside;
-        going = goes_on_lem turning (rw same_entry at put);
+        words = back ∙ ap₂ (λ (n : ℕ) (l : List ℕ). drop n l) found.count found.after ∙ drop-append_seam found.entry.words (plan_words found.rest);
+        going = turning then (rw same_entry at put);
       }

@@ -1,20 +1,20 @@
 -- Texts put one after another are one text put.
 -- `Putting` is the state between two puts, in a loop and in a row of calls alike: what is left to write, put at the next place, makes the whole.
-use Prim.Native.Nat.{ℕ, ◌+◌, ◌<◌}
+use Prim.Native.Nat.{ℕ, ◌+◌, ◌≤◌}
 use mathlib.Core.Path.{◌≡◌, refl, sym, ap, ap₂, ◌∙◌}
-use mathlib.Core.List.{List, [], ◌∷◌, ◌++◌, append_assoc, append-nil}
-use native.Mathlib.Numerals.{add-one}
+use mathlib.Core.List.{List, [], ◌∷◌, ◌++◌, append_assoc}
 use native.Mathlib.Omega.{arith}
-use lib.ListN.{length, take, drop, set, length-append, length-drop, take-append-drop}
-use lib.Seq.{length-take-le, take-length, take_at, drop_at, drop-drop, set_split, paste}
+use lib.ListN.{length, take, drop, length-append, length-drop, take-append-drop}
+use lib.Seq.{length-take-le, take_at, drop_at, drop-drop}
+use Rattle.page.specs.declared.writing.Writing.{Writing}
 use Rattle.page.specs.Page.{in_sequence}
 use Rattle.model.specs.Lists.{overwritten_at}
-use Rattle.page.specs.Writing.{TextRoom, Put, Begins}
+use Rattle.page.specs.Writing.{TextRoom, Put, Begun, Begins}
 
 spread : (from : ℕ) (text page : List ℕ) → overwritten_at from text page ≡ take from page ++ (text ++ drop (from + length text) page)
 spread from text page = refl
 
-module _ (from : ℕ) (text page : List ℕ) (room : TextRoom from text page) where
+module _ (from : ℕ) (text page : List ℕ) (room : from + length text ≤ length page) where
   front : overwritten_at from text page ≡ (take from page ++ text) ++ drop (from + length text) page
   front = sym (append_assoc (take from page) text (drop (from + length text) page))
 
@@ -45,55 +45,56 @@ module _ (from : ℕ) (text page : List ℕ) (room : TextRoom from text page) wh
 pub put_nothing : (from : ℕ) (page : List ℕ) → overwritten_at from [] page ≡ page
 put_nothing from page = let e : from + 0 ≡ from = omega arith in rw e (take-append-drop from page)
 
--- as many bytes copied as the text has
-pub pasted : (from : ℕ) (text page : List ℕ) → paste page from text (length text) ≡ overwritten_at from text page
-pasted from text page =
-    ap (λ (l : List ℕ). take from page ++ l ++ drop (from + length text) page) (take-length text) ∙ append_assoc (take from page) text (drop (from + length text) page) ∙ sym (spread from text page)
+pub length_put : {text : List ℕ} {before after : Writing} → TextRoom text before → Put text before after → length after.page.now ≡ length before.page.now
+length_put {text} {before} room p = ap length p.written ∙ length_overwritten before.at text before.page.now room.fits
 
--- one byte stored
-pub put_byte : (from : ℕ) (b : ℕ) (page : List ℕ) → from < length page → Put from (b ∷ []) page (set page from b) (from + 1)
-put_byte from b page h = record { written = rw add-one (set_split page from b h); place = refl }
+-- a text put from the first place on of a page as it was lent
+module _ {text page : List ℕ} {w : Writing} (begun : Begun page w) where
+  pub lent_room : length text ≤ length page → TextRoom text w
+  lent_room room = record { fits = omega (arith, ap length begun.as_lent, begun.first) }
 
-pub length_put : {from next : ℕ} {text before after : List ℕ} → TextRoom from text before → Put from text before after next → length after ≡ length before
-length_put {from} {text = text} {before = before} room p = ap length p.written ∙ length_overwritten from text before room
+  pub begins : {v : Writing} → Put text w v → Begins text page v.page.now v.at
+  begins {v} p =
+      let e : 0 + length text ≡ length text = omega arith in record {
+        written = rw (begun.first, begun.as_lent) at p.written ∙ ap (λ (n : ℕ). text ++ drop n page) e;
+        bytes = omega (arith, p.place, begun.first);
+      }
 
--- a text put from the first place on
-pub begins : {next : ℕ} {text before after : List ℕ} → Put 0 text before after next → Begins text before after next
-begins {text = text} {before = before} p =
-    let e : 0 + length text ≡ length text = omega arith in
-    record { written = p.written ∙ ap (λ (n : ℕ). text ++ drop n before) e; bytes = p.place ∙ e }
-
-pub record Putting (from : ℕ) (text before : List ℕ) (left : List (List ℕ)) (page : List ℕ) (next : ℕ) : Type 0 where
-  pub whole : overwritten_at next (in_sequence left) page ≡ overwritten_at from text before
-  pub end : next + length (in_sequence left) ≡ from + length text
-  pub long : length page ≡ length before
-  pub room : TextRoom from text before
+pub record Putting (text : List ℕ) (before : Writing) (left : List (List ℕ)) (w : Writing) : Type 0 where
+  pub whole : overwritten_at w.at (in_sequence left) w.page.now ≡ overwritten_at before.at text before.page.now
+  pub end : w.at + length (in_sequence left) ≡ before.at + length text
+  pub long : length w.page.now ≡ length before.page.now
+  pub room : TextRoom text before
+  pub same_page : w.page.ghost_name ≡ before.page.ghost_name
 
 in_row_append : (l m : List (List ℕ)) → in_sequence (l ++ m) ≡ in_sequence l ++ in_sequence m
 in_row_append [] m = refl
 in_row_append (a ∷ l) m = rw (in_row_append l m, append_assoc)
 
-pub starts : {from : ℕ} {before : List ℕ} (l : List (List ℕ)) → TextRoom from (in_sequence l) before → Putting from (in_sequence l) before l before from
-starts l room = record { whole = refl; end = refl; long = refl; room = room }
+pub starts : {w : Writing} (l : List (List ℕ)) → TextRoom (in_sequence l) w → Putting (in_sequence l) w l w
+starts l room = record { whole = refl; end = refl; long = refl; room = room; same_page = refl }
 
-module _ {from : ℕ} {text before : List ℕ} where
-  pub starts_whole : TextRoom from text before → Putting from text before (text ∷ []) before from
-  starts_whole room = record { whole = rw append-nil; end = rw append-nil; long = refl; room = room }
+module _ {text : List ℕ} {before : Writing} where
+  pub room_left : {a : List ℕ} {l : List (List ℕ)} {w : Writing} → Putting text before (a ∷ l) w → TextRoom a w
+  room_left {a} {l} {w} g = let s = length-append a (in_sequence l) in record { fits = omega (arith, g.end, g.long, g.room.fits) }
 
-  pub room_left : {a page : List ℕ} {l : List (List ℕ)} {next : ℕ} → Putting from text before (a ∷ l) page next → TextRoom next a page
-  room_left {a} {l = l} g = let s = length-append a (in_sequence l) in omega arith
-
-  pub goes_on_lem : {a page after : List ℕ} {l : List (List ℕ)} {next place : ℕ} → Putting from text before (a ∷ l) page next → Put next a page after place → Putting from text before l after place
-  goes_on_lem {a} {page} {after} {l} {next} {place} g p = record {
-    whole = rw (p.written, p.place) (put_after next a page (room_left g) (in_sequence l) ∙ g.whole);
-    end = let s = length-append a (in_sequence l) in omega arith;
+  pub goes_on_lem : {a : List ℕ} {l : List (List ℕ)} {w v : Writing} → Putting text before (a ∷ l) w → Put a w v → Putting text before l v
+  goes_on_lem {a} {l} {w} {v} g p = record {
+    whole = rw (p.written, p.place) (put_after w.at a w.page.now (room_left g).fits (in_sequence l) ∙ g.whole);
+    end = let s = length-append a (in_sequence l) in omega (arith, g.end, p.place);
     long = length_put (room_left g) p ∙ g.long;
     room = g.room;
+    same_page = p.same_page ∙ g.same_page;
   }
 
   -- a text that is itself a row of texts is put one by one
-  pub goes_in : {page : List ℕ} (l : List (List ℕ)) {m : List (List ℕ)} {next : ℕ} → Putting from text before (in_sequence l ∷ m) page next → Putting from text before (l ++ m) page next
-  goes_in {page} l {m} {next} g = record { whole = rw (in_row_append l m) g.whole; end = rw (in_row_append l m) g.end; long = g.long; room = g.room }
+  pub goes_in : {w : Writing} (l : List (List ℕ)) {m : List (List ℕ)} → Putting text before (in_sequence l ∷ m) w → Putting text before (l ++ m) w
+  goes_in l {m} g = record { whole = rw (in_row_append l m) g.whole; end = rw (in_row_append l m) g.end; long = g.long; room = g.room; same_page = g.same_page }
 
-  pub ends : {page : List ℕ} {next : ℕ} → Putting from text before [] page next → Put from text before page next
-  ends {page} {next} g = record { written = sym (put_nothing next page) ∙ g.whole; place = let h = g.end in omega arith }
+  pub ends : {w : Writing} → Putting text before [] w → Put text before w
+  ends {w} g = record { written = sym (put_nothing w.at w.page.now) ∙ g.whole; place = omega (arith, g.end); same_page = g.same_page }
+
+-- one text after another: `g then p then q`
+infixl 20 ◌then◌
+pub ◌then◌ : {text : List ℕ} {before : Writing} {a : List ℕ} {l : List (List ℕ)} {w v : Writing} → Putting text before (a ∷ l) w → Put a w v → Putting text before l v
+◌then◌ = goes_on_lem

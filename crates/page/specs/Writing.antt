@@ -5,16 +5,23 @@ use Rattle.model.specs.declared.Summary.{Summary}
 use Rattle.model.specs.Lists.{overwritten, overwritten_at}
 use Rattle.rules.specs.Routes.{Entry}
 use Rattle.rules.specs.Key.{plan_words}
+use Rattle.page.specs.declared.writing.Writing.{Writing}
 use Rattle.page.specs.Page.{key_page}
 
--- the text fits in the page from this place on
-pub record TextRoom (from : ℕ) (text page : List ℕ) : Type 0 where
-  pub fits : from + length text ≤ length page
+-- the text fits on the page from where the writing stands
+pub record TextRoom (text : List ℕ) (w : Writing) : Type 0 where
+  pub fits : w.at + length text ≤ length w.page.now
 
--- the text was put from this place on; next is the place after it
-pub record Put (from : ℕ) (text before after : List ℕ) (next : ℕ) : Type 0 where
-  pub written : after ≡ overwritten_at from text before
-  pub place : next ≡ from + length text
+-- the text was put from there on, and the writing stands after it, on the same page
+pub record Put (text : List ℕ) (before after : Writing) : Type 0 where
+  pub written : after.page.now ≡ overwritten_at before.at text before.page.now
+  pub place : after.at ≡ before.at + length text
+  pub same_page : after.page.ghost_name ≡ before.page.ghost_name
+
+-- nothing is written yet on the page that was lent
+pub record Begun (page : List ℕ) (w : Writing) : Type 0 where
+  pub as_lent : w.page.now ≡ page
+  pub first : w.at ≡ 0
 
 -- the page begins with the text, of n bytes, and past it stays as it was
 pub record Begins (text before after : List ℕ) (n : ℕ) : Type 0 where
@@ -35,9 +42,7 @@ entries_in ws = entries_of (length ws) ws
 abbrev pub IsPlan : List ℕ → Type 0
 IsPlan ws = plan_words (entries_in ws) ≡ ws
 
--- what `write_key` is given: a plan in the first words, a list in the first carriers, and room for the page
-pub record Writable (summary : Summary) (verdict : ℕ) (plan : List ℕ) (planned : ℕ) (list : List ℕ) (listed : ℕ) (page : List ℕ) : Type 0 where
-  pub plan_in : planned ≤ length plan
-  pub list_in : listed ≤ length list
-  pub is_plan : IsPlan (take planned plan)
-  pub room : length (key_page summary verdict (entries_in (take planned plan)) (take listed list)) ≤ length page
+-- what `write_key` is given: the words of a plan, and room for the page
+pub record Writable (summary : Summary) (verdict : ℕ) (plan list page : List ℕ) : Type 0 where
+  pub is_plan : IsPlan plan
+  pub room : length (key_page summary verdict (entries_in plan) list) ≤ length page

@@ -2,31 +2,30 @@
 ghost use Rattle.page.specs.Page.{decimal, spaced, blocked_text};
 ghost use Rattle.page.specs.Writing.{TextRoom, Put};
 
-use crate::put::{put_decimal, put_text};
+use crate::writing::Writing;
 
-// Each carrier after a space.
-pub fn put_carriers(page: &mut [u8], at: usize, list: &[u16]) -> usize
-    requires { TextRoom at (spaced decimal list.now) page.old }
-    ensures { Put at (spaced decimal list.now) page.old page.new result }
-{
-    let mut next = at;
-    let mut j = 0;
-    while j < list.len() {
-        page[next] = b' ';
-        next = put_decimal(page, next + 1, list[j] as usize);
-        j += 1;
+impl Writing<'_> {
+    // Each carrier after a space. Like `put_words`: a trait for the one call in which they differ would be longer than both.
+    pub fn put_carriers(&mut self, list: &[u16])
+        requires { TextRoom (spaced decimal list.now) self.old }
+        ensures { Put (spaced decimal list.now) self.old self.new }
+    {
+        for carrier in list {
+            self.put_text(b" ");
+            self.put_decimal(*carrier as usize);
+        }
     }
-    next
-}
 
-// The carriers, or `none` where there is none.
-pub fn put_list(page: &mut [u8], at: usize, list: &[u16]) -> usize
-    requires { TextRoom at (blocked_text list.now) page.old }
-    ensures { Put at (blocked_text list.now) page.old page.new result }
-{
-    if list.len() == 0 {
-        put_text(page, at, b" none")
-    } else {
-        put_carriers(page, at, list)
+    // The carriers, or `none` where there is none.
+    pub fn put_list(&mut self, list: &[u16])
+        requires { TextRoom (blocked_text list.now) self.old }
+        ensures { Put (blocked_text list.now) self.old self.new }
+    {
+        let none = list.is_empty();
+        if none {
+            self.put_text(b" none");
+        } else {
+            self.put_carriers(list);
+        }
     }
 }

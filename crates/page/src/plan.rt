@@ -2,63 +2,51 @@
 ghost use Rattle.page.specs.Page.{word_text, spaced, entry_line, entry_lines};
 ghost use Rattle.page.specs.Writing.{TextRoom, Put, IsPlan, entries_in};
 
-use crate::put::{put_decimal, put_labelled, put_text};
+use crate::writing::Writing;
 
-// A zone with + for heading 0 and - for 1.
-pub fn put_word(page: &mut [u8], at: usize, word: usize) -> usize
-    requires { TextRoom at (word_text word) page.old }
-    ensures { Put at (word_text word) page.old page.new result }
-{
-    let next = put_decimal(page, at, word / 2);
-    if word % 2 == 0 {
-        page[next] = b'+';
-        return next + 1;
+impl Writing<'_> {
+    // A zone with + for heading 0 and - for 1.
+    pub fn put_word(&mut self, word: usize)
+        requires { TextRoom (word_text word) self.old }
+        ensures { Put (word_text word) self.old self.new }
+    {
+        self.put_decimal(word / 2);
+        self.put_text(if word % 2 == 0 { b"+" } else { b"-" });
     }
-    page[next] = b'-';
-    next + 1
-}
 
-// Each word after a space.
-pub fn put_words(page: &mut [u8], at: usize, words: &[u16]) -> usize
-    requires { TextRoom at (spaced word_text words.now) page.old }
-    ensures { Put at (spaced word_text words.now) page.old page.new result }
-{
-    let mut next = at;
-    let mut j = 0;
-    while j < words.len() {
-        page[next] = b' ';
-        next = put_word(page, next + 1, words[j] as usize);
-        j += 1;
+    // Each word after a space.
+    pub fn put_words(&mut self, words: &[u16])
+        requires { TextRoom (spaced word_text words.now) self.old }
+        ensures { Put (spaced word_text words.now) self.old self.new }
+    {
+        for word in words {
+            self.put_text(b" ");
+            self.put_word(*word as usize);
+        }
     }
-    next
-}
 
-// A line: the carrier, and its route.
-pub fn put_entry(page: &mut [u8], at: usize, carrier: usize, words: &[u16]) -> usize
-    requires { TextRoom at (entry_line (record { carrier = carrier; words = words.now })) page.old }
-    ensures { Put at (entry_line (record { carrier = carrier; words = words.now })) page.old page.new result }
-{
-    let after_carrier = put_labelled(page, at, b"home ", carrier);
-    let after_colon = put_text(page, after_carrier, b":");
-    let after_words = put_words(page, after_colon, words);
-    put_text(page, after_words, b"\n")
-}
-
-// For each carrier its number, the count of words, the words.
-pub fn put_plan(page: &mut [u8], at: usize, plan: &[u16]) -> usize
-    requires plan { IsPlan plan.now }
-    requires text_room { TextRoom at (entry_lines (entries_in plan.now)) page.old }
-    ensures { Put at (entry_lines (entries_in plan.now)) page.old page.new result }
-{
-    let mut next = at;
-    let mut k = 0;
-    while k < plan.len() {
-        let carrier = plan[k] as usize;
-        let count = plan[k + 1] as usize;
-        let start = k + 2;
-        let end = start + count;
-        next = put_entry(page, next, carrier, &plan[start..end]);
-        k = end;
+    // A line: the carrier, and its route.
+    pub fn put_entry(&mut self, carrier: usize, words: &[u16])
+        requires { TextRoom (entry_line (record { carrier = carrier; words = words.now })) self.old }
+        ensures { Put (entry_line (record { carrier = carrier; words = words.now })) self.old self.new }
+    {
+        self.put_labelled(b"home ", carrier);
+        self.put_text(b":");
+        self.put_words(words);
+        self.put_text(b"\n");
     }
-    next
+
+    // For each carrier its number, the count of words, the words.
+    pub fn put_plan(&mut self, plan: &[u16])
+        requires plan { IsPlan plan.now }
+        requires room { TextRoom (entry_lines (entries_in plan.now)) self.old }
+        ensures { Put (entry_lines (entries_in plan.now)) self.old self.new }
+    {
+        let mut left = plan;
+        while let [carrier, count, after @ ..] = left {
+            let (words, entries) = after.split_at(*count as usize);
+            self.put_entry(*carrier as usize, words);
+            left = entries;
+        }
+    }
 }

@@ -26,9 +26,6 @@ module _ (ends : List ℕ) (p : Position) (m : Bool) (s w : ℕ) where
     unfolding goes_on
     goes_held = ap (λ (b : Bool). b || (m && (not (eqb (heading_of w) (heading_of (at p (zone_of w)))) || has_bit s (end_of ends w)))) (ne_eqb (at p (zone_of w)) 0 held)
 
-    pub goes_not : m ≡ false → goes_on ends p m s w ≡ false
-    goes_not e = goes_held ∙ ap (λ (b : Bool). b && (not (eqb (heading_of w) (heading_of (at p (zone_of w)))) || has_bit s (end_of ends w))) e
-
     pub goes_back : m ≡ true → (heading_of w ≡ heading_of (at p (zone_of w)) → ⊥) → goes_on ends p m s w ≡ true
     goes_back e n =
         goes_held ∙ ap (λ (b : Bool). b && (not (eqb (heading_of w) (heading_of (at p (zone_of w)))) || has_bit s (end_of ends w))) e

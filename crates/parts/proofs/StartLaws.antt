@@ -2,7 +2,7 @@
 -- A free zone is counted at one point, so the sum over the points below n counts the free zones that start at one of them.
 use Prim.Native.Nat.{ℕ, zero, suc, ◌+◌, ◌*◌, ◌^◌, ◌≤◌, ◌<◌}
 use mathlib.Core.Path.{◌≡◌, refl, sym, ap, ap₂, ◌∙◌}
-use mathlib.Core.List.{List, [], ◌∷◌, ◌++◌, Memᴰ}
+use mathlib.Core.List.{List, [], ◌∷◌, Memᴰ}
 use mathlib.Core.Bool.{Bool, true, false, ◌&&◌, ◌||◌, and-true, and-false, true≢false}
 use native.Mathlib.Numerals.{add-one}
 use native.Mathlib.Omega.{arith}
@@ -11,6 +11,8 @@ use lib.ListN.{get_or, set, replicate, length-set, length-replicate}
 use lib.Seq.{get_or-set_same, get_or-set_other}
 use lib.Dec.{eqb, ltb}
 use lib.Count.{ones}
+use Rattle.std.specs.List.{sum_by}
+use Rattle.std.proofs.lemmas.List.Sums.{sum_by-cons, sum_by-append}
 use Rattle.model.specs.Lists.{numbers_below, cons_if, keep, how_many}
 use Rattle.model.specs.Position.{Position, is_free}
 use Rattle.model.proofs.ListLaws.{below_suc, mem_below, mem_keep, keep_append, keep_none, keep_lowest, how_many_ext, how_many_none, get_or_zeros}
@@ -19,7 +21,7 @@ use Rattle.bits.specs.Sets.{has_bit, set_minus, Lowest}
 use Rattle.bits.proofs.BitLaws.{bit_none, minus_gone, minus_word, alone_there, alone_word}
 use Rattle.bits.proofs.SizeLaws.{size_fewer}
 use Rattle.bits.proofs.LowestLaws.{others_stay}
-use Rattle.parts.specs.Ways.{EndsAmong, StartCounts, sum_over, count_in}
+use Rattle.parts.specs.Ways.{EndsAmong, StartCounts, count_in}
 
 -- the counts, one zone more at a time
 
@@ -75,13 +77,10 @@ module _ {z : ℕ} {ends : List ℕ} {p : Position} {counts : List ℕ} (s : Sta
 
 -- sums over lists
 
-sum_append : (f : ℕ → ℕ) (l m : List ℕ) → sum_over f (l ++ m) ≡ sum_over f l + sum_over f m
-sum_append f [] m = omega arith
-sum_append f (a ∷ l) m = let rest : sum_over f (l ++ m) ≡ sum_over f l + sum_over f m = sum_append f l m in omega arith
-
-sum_ext : (f g : ℕ → ℕ) (l : List ℕ) → ((x : ℕ) → Memᴰ x l → f x ≡ g x) → sum_over f l ≡ sum_over g l
+sum_ext : (f g : ℕ → ℕ) (l : List ℕ) → ((x : ℕ) → Memᴰ x l → f x ≡ g x) → sum_by f l ≡ sum_by g l
 sum_ext f g [] h = refl
-sum_ext f g (a ∷ l) h = ap₂ (λ (x y : ℕ). x + y) (h a (Memᴰ.head refl)) (sum_ext f g l (λ x m. h x (Memᴰ.tail m)))
+sum_ext f g (a ∷ l) h =
+    sum_by-cons f a l ∙ ap₂ (λ (x y : ℕ). x + y) (h a (Memᴰ.head refl)) (sum_ext f g l (λ x m. h x (Memᴰ.tail m))) ∙ sym (sum_by-cons g a l)
 
 -- the sum over the points below n that pass
 
@@ -121,19 +120,19 @@ module _ (free : ℕ → Bool) (end : ℕ → ℕ) (zs : List ℕ) (f : ℕ → 
   abbrev at_below : ℕ → ℕ → Bool
   at_below n z = free z && (f (end z) && ltb (end z) n)
 
-  sum_below : (n : ℕ) → sum_over at_point (keep f (numbers_below n)) ≡ how_many (at_below n) zs
+  sum_below : (n : ℕ) → sum_by at_point (keep f (numbers_below n)) ≡ how_many (at_below n) zs
   sum_below zero =
       sym (how_many_none (at_below 0) zs (λ z m.
       ap (λ (b : Bool). free z && (f (end z) && b)) (le-ltb (end z) 0 (omega arith)) ∙ ap (λ (b : Bool). free z && b) (and-false (f (end z))) ∙ and-false (free z)))
   sum_below (suc n) =
-      ap (λ (l : List ℕ). sum_over at_point (keep f l)) (below_suc n) ∙ ap (sum_over at_point) (keep_append f (numbers_below n) (n ∷ []))
-      ∙ sum_append at_point (keep f (numbers_below n)) (keep f (n ∷ [])) ∙ go (f n) refl (sum_below n)
+      ap (λ (l : List ℕ). sum_by at_point (keep f l)) (below_suc n) ∙ ap (sum_by at_point) (keep_append f (numbers_below n) (n ∷ []))
+      ∙ sum_by-append at_point (keep f (numbers_below n)) (keep f (n ∷ [])) ∙ go (f n) refl (sum_below n)
     where
       split : (z : ℕ) → at_below (suc n) z ≡ (free z && (f (end z) && (ltb (end z) n || eqb (end z) n)))
       split z = ap (λ (b : Bool). free z && (f (end z) && b)) (at_most (end z) n)
 
-      go : (t : Bool) → f n ≡ t → sum_over at_point (keep f (numbers_below n)) ≡ how_many (at_below n) zs
-          → sum_over at_point (keep f (numbers_below n)) + sum_over at_point (cons_if t n []) ≡ how_many (at_below (suc n)) zs
+      go : (t : Bool) → f n ≡ t → sum_by at_point (keep f (numbers_below n)) ≡ how_many (at_below n) zs
+          → sum_by at_point (keep f (numbers_below n)) + sum_by at_point (cons_if t n []) ≡ how_many (at_below (suc n)) zs
       go true e ih =
           let more : how_many (at_below (suc n)) zs ≡ how_many (at_below n) zs + at_point n =
           how_many_ext (at_below (suc n)) (λ z. at_below n z || (free z && eqb (end z) n)) zs
@@ -169,21 +168,19 @@ module _ {points zones : ℕ} {ends : List ℕ} {p : Position} (among : EndsAmon
 count_in_lowest : (counts : List ℕ) (rest low : ℕ) → rest < 2 ^ 64 → Lowest rest low → count_in counts rest ≡ get_or counts low 0 + count_in counts (set_minus rest (2 ^ low))
 unfolding count_in
 count_in_lowest counts rest low h l =
-    ap (sum_over (λ q. get_or counts q 0))
+    ap (sum_by (λ q. get_or counts q 0))
     (keep_lowest (has_bit rest) (has_bit (set_minus rest (2 ^ low))) 0 64 low (omega arith) (omega (arith, l.inside)) l.there
     (minus_gone rest (2 ^ low) low h (alone_word low l.inside) (alone_there low)) (λ j a b. l.least j b) (λ j a d. others_stay rest low h l j d))
+    ∙ sum_by-cons (λ q. get_or counts q 0) low (keep (has_bit (set_minus rest (2 ^ low))) (numbers_below 64))
 
 count_in_none : (counts : List ℕ) → count_in counts 0 ≡ 0
 unfolding count_in
-count_in_none counts = ap (sum_over (λ q. get_or counts q 0)) (keep_none (has_bit 0) (numbers_below 64) (λ q m. bit_none q))
+count_in_none counts = ap (sum_by (λ q. get_or counts q 0)) (keep_none (has_bit 0) (numbers_below 64) (λ q m. bit_none q))
 
 -- the counts of a part's points are added to n, up to those of `rest`
 pub record Adding (counts : List ℕ) (part n rest : ℕ) : Type 0 where
   pub word : rest < 2 ^ 64
   pub whole : n + count_in counts rest ≡ count_in counts part
-
-pub adding_starts : (counts : List ℕ) (part : ℕ) → part < 2 ^ 64 → Adding counts part 0 part
-adding_starts counts part h = record { word = h; whole = omega arith }
 
 module _ {counts : List ℕ} {part n rest : ℕ} (a : Adding counts part n rest) where
   module _ {low : ℕ} (l : Lowest rest low) where

@@ -1,6 +1,6 @@
 -- What the functions of the collapse on sets of points hand to each other: ways over words, counts of free zones, the points of the parts
 -- with a loop, and the points grown from with the count of steps.
-use Rattle.std.specs.Prelude.{ℕ, ◌+◌, ◌*◌, ◌^◌, ◌≤◌, ◌<◌, List, [], ◌∷◌, ◌≡◌, Bool, not, ◌&&◌, ◌||◌, length, get_or, eqb, ltb}
+use Rattle.std.specs.Prelude.{ℕ, ◌*◌, ◌^◌, ◌≤◌, ◌<◌, List, ◌≡◌, Bool, true, false, not, Option, None, Some, ◌&&◌, ◌||◌, sum_by, length, get_or, eqb, ltb}
 use Rattle.model.specs.Lists.{numbers_below, keep, how_many}
 use Rattle.model.specs.Track.{Track, zone_of, heading_of, rev}
 use Rattle.model.specs.Position.{Position, at, is_free}
@@ -26,6 +26,11 @@ end_of ends w = get_or ends (rev w) 0
 unfoldable pub goes_on : List ℕ → Position → Bool → ℕ → ℕ → Bool
 goes_on ends p merging s w = is_free p (zone_of w) || (merging && (not (eqb (heading_of w) (heading_of (at p (zone_of w)))) || has_bit s (end_of ends w)))
 
+-- the same, where in merging the points of s are given and else none
+abbrev pub goes_over : List ℕ → Position → Option ℕ → ℕ → Bool
+goes_over ends p None w = goes_on ends p false 0 w
+goes_over ends p (Some s) w = goes_on ends p true s w
+
 -- the ways over the words below n that a set goes on over
 abbrev pub WaysOn : List ℕ → (ℕ → Bool) → ℕ → List ℕ → Type 0
 WaysOn ends goes n ways = WaysOver (λ w. get_or ends w 0) (end_of ends) goes n ways
@@ -35,14 +40,9 @@ pub record StartCounts (zones : ℕ) (ends : List ℕ) (p : Position) (counts : 
   pub long : length counts ≡ 64
   pub each : (q : ℕ) → q < 64 → get_or counts q 0 ≡ how_many (λ z. is_free p z && eqb (get_or ends (2 * z) 0) q) (numbers_below zones)
 
--- the sum of a function over a list
-abbrev pub sum_over : (ℕ → ℕ) → List ℕ → ℕ
-sum_over f [] = 0
-sum_over f (a ∷ l) = f a + sum_over f l
-
 -- the sum of the counts of a part's points
 unfoldable pub count_in : List ℕ → ℕ → ℕ
-count_in counts part = sum_over (λ q. get_or counts q 0) (keep (has_bit part) (numbers_below 64))
+count_in counts part = sum_by (λ q. get_or counts q 0) (keep (has_bit part) (numbers_below 64))
 
 -- the set of the points whose free part holds a loop
 pub record Looped (t : Track) (p : Position) (s : ℕ) : Type 0 where

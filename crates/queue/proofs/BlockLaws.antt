@@ -13,7 +13,7 @@ use Rattle.bits.proofs.BitLaws.{bit_none, minus_gone, minus_word, alone_there, a
 use Rattle.bits.proofs.LowestLaws.{others_stay}
 use Rattle.bits.proofs.SizeLaws.{size_fewer}
 use Rattle.queue.specs.Offers.{members, QueueRoom, Stored}
-use Rattle.queue.proofs.Filling.{Filling, filling_starts, filling_room, filling_one, filling_done}
+use Rattle.queue.proofs.Filling.{Filling, filling_room, filling_one, filling_done}
 
 -- the words of one block
 
@@ -35,9 +35,6 @@ members_none first = keep_none (λ v. has_bit 0 (v - first)) (count_up first 64)
 pub record StoringBlock (first block i found : ℕ) (words₀ froms₀ words froms : List ℕ) (n rest : ℕ) : Type 0 where
   pub word : rest < 2 ^ 64
   pub filling : Filling i n (members first rest) words froms found (members first block) words₀ froms₀
-
-pub block_starts : (first block i found : ℕ) (words froms : List ℕ) → block < 2 ^ 64 → StoringBlock first block i found words froms words froms found block
-block_starts first block i found words froms h = record { word = h; filling = filling_starts i found (members first block) words froms }
 
 module _ {first block i found : ℕ} {words₀ froms₀ words froms : List ℕ} {n rest : ℕ} (room : QueueRoom (members first block) found words₀ froms₀) (s : StoringBlock first block i found words₀ froms₀ words froms n rest) where
   module _ {low : ℕ} (l : Lowest rest low) where

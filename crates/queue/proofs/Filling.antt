@@ -1,4 +1,4 @@
--- Words put at the end of the queue's arrays: what is still to come decides what the arrays hold at the end.
+-- Words put at the end of the queue's two lists: what is still to come decides what the lists hold at the end.
 -- Stores go one by one (`sets` of lib.Seq), so one word more is one step, and several are several steps.
 use Prim.Native.Nat.{ℕ, suc, ◌+◌}
 use mathlib.Core.Path.{◌≡◌, refl, sym, ◌∙◌, ap, ap₂}
@@ -10,7 +10,7 @@ use lib.Seq.{sets, length-sets}
 use Rattle.model.proofs.StoreLaws.{sets_append, overwritten_sets}
 use Rattle.queue.specs.Offers.{QueueRoom, Stored}
 
--- `left` is still to be stored from n on; the arrays then are as with `all` stored from `found` on at the start
+-- `left` is still to be stored from n on; the lists then are as with `all` stored from `found` on at the start
 pub record Filling (i n : ℕ) (left words froms : List ℕ) (found : ℕ) (all words₀ froms₀ : List ℕ) : Type 0 where
   pub words_same : length words ≡ length words₀
   pub froms_same : length froms ≡ length froms₀

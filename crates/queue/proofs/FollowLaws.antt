@@ -1,13 +1,17 @@
 -- The rows of the tables: those of the words that start at each point, one row filled from another, and the rows of the words below one.
--- Number 192 × k + v is at block 3 × k + v / 64, so a row is three blocks; a row is copied, and then one block of it is stored again without two words.
-use Prim.Native.Nat.{ℕ, zero, suc, ◌+◌, ◌*◌, ◌/◌, ◌%◌, ◌^◌, ◌≤◌, ◌<◌}
+-- Number 192 × k + v is at block 3 × k + v / 64, so a row is three blocks; a row is copied, and then one block of it is stored again without two
+-- words.
+use Prim.Native.Nat.{ℕ, ◌+◌, ◌-◌, ◌*◌, ◌/◌, ◌%◌, ◌^◌, ◌≤◌, ◌<◌}
 use mathlib.Core.Path.{◌≡◌, refl, sym, ap, ap₂, ◌∙◌}
 use mathlib.Core.List.{List}
+use mathlib.Core.Logic.{◌⊎◌, inl, inr, ⊎_elim}
 use mathlib.Core.Bool.{Bool, true, false, not, ◌&&◌, ◌||◌, and-true, and_assoc}
-use native.Mathlib.Nat.{add-zero}
 use native.Mathlib.Omega.{arith}
-use borrow.Author.Tests.{eqb-true, eqb-false, eq-eqb, ne_eqb, le-ltb}
-use lib.ListN.{length, get_or, set, length-set, replicate}
+use borrow.Author.Tests.{eqb-true, eqb-false, eq-eqb, ne_eqb, le-ltb, ltb-true, ltb-false}
+use borrow.Rule.Slice.PartMut.{put_mid}
+use Rattle.std.proofs.Common.{rules}
+use Rattle.std.proofs.lemmas.List.{places}
+use lib.ListN.{length, get_or, set, take, drop, replicate}
 use lib.Seq.{get_or-set_same, get_or-set_other}
 use lib.Dec.{eqb, ltb}
 use lib.Bits.{bit_or}
@@ -62,73 +66,55 @@ own_bit w own₁ own v e f same =
     go true k = let first : v % 64 ≡ 2 * (w / 2) % 64 = eqb-true (v % 64) (2 * (w / 2) % 64) k in sym (eq-eqb (v / 2) (w / 2) (omega arith))
     go false k = let other : v % 64 ≡ 2 * (w / 2) % 64 → ⊥ = eqb-false (v % 64) (2 * (w / 2) % 64) k in same_eqb (v % 64) ((2 * (w / 2) + 1) % 64) (v / 2) (w / 2) (λ i. omega arith) (λ i. omega arith)
 
--- the blocks of a row stored as those of another: one, two, all three
-abbrev one : List ℕ → ℕ → ℕ → List ℕ → List ℕ
-one starts point w follows = set follows (3 * w) (get_or starts (3 * point) 0)
+-- row w of a table is a copy of the point's row, and all other rows are as they were
+pub record Copied (starts : List ℕ) (point w : ℕ) (follows copied : List ℕ) : Type 0 where
+  pub same : length copied ≡ length follows
+  pub block : (b : ℕ) → b < 3 → get_or copied (3 * w + b) 0 ≡ get_or starts (3 * point + b) 0
+  pub other : (i : ℕ) → (i < 3 * w) ⊎ (3 * w + 3 ≤ i) → get_or copied i 0 ≡ get_or follows i 0
 
-abbrev two : List ℕ → ℕ → ℕ → List ℕ → List ℕ
-two starts point w follows = set (one starts point w follows) (3 * w + 1) (get_or starts (3 * point + 1) 0)
+pub row_copied : (starts : List ℕ) (point w : ℕ) (follows : List ℕ) {row : List ℕ} → 3 * point + 3 ≤ length starts → 3 * w + 3 ≤ length follows
+    → row ≡ take (3 * point + 3 - 3 * point) (drop (3 * point) starts) → Copied starts point w follows (put_mid (3 * w) (3 * w + 3 - 3 * w) follows row)
+row_copied starts point w follows room room' e =
+    rw e record { same = search (rules, places); block = λ b h. search (rules, places); other = λ i h. ⊎_elim (λ h. search (rules, places)) (λ h. search (rules, places)) h }
 
-abbrev pub copied : List ℕ → ℕ → ℕ → List ℕ → List ℕ
-copied starts point w follows = set (two starts point w follows) (3 * w + 2) (get_or starts (3 * point + 2) 0)
+-- and one block of it stored again without the words of the zone of w
+module _ {starts : List ℕ} {point w : ℕ} {follows copied : List ℕ} (c : Copied starts point w follows copied) (room : 3 * w + 3 ≤ length follows)
+    (small : w < 192) (fits : (i : ℕ) → get_or starts i 0 < 2 ^ 64) {own₁ own block : ℕ} (own-fits : own < 2 ^ 64)
+    (first : own₁ ≡ bit_or 0 (2 ^ (2 * (w / 2) % 64))) (second : own ≡ bit_or own₁ (2 ^ ((2 * (w / 2) + 1) % 64)))
+    (stored : block ≡ set_minus (get_or copied (3 * w + w / 64) 0) own) where
+  pub row_filled : RowFilled starts point w follows (set copied (3 * w + w / 64) block)
+  row_filled = record { row = λ v h. in_row_lem (set copied (3 * w + w / 64) block) w v ∙ row v h (eqb (v / 64) (w / 64)) refl; others = others }
+    where
+      row : (v : ℕ) → v < 192 → (t : Bool) → eqb (v / 64) (w / 64) ≡ t
+          → has_bit (get_or (set copied (3 * w + w / 64) block) (3 * w + v / 64) 0) (v % 64) ≡ (in_row starts point v && not (eqb (v / 2) (w / 2)))
+      row v h true e =
+          let same : v / 64 ≡ w / 64 = eqb-true (v / 64) (w / 64) e in
+          let source : get_or copied (3 * w + w / 64) 0 ≡ get_or starts (3 * point + w / 64) 0 = c.block (w / 64) (omega arith) in
+          ap (λ (b : ℕ). has_bit (get_or (set copied (3 * w + w / 64) block) (3 * w + b) 0) (v % 64)) same ∙
+          ap (λ (x : ℕ). has_bit x (v % 64)) (get_or-set_same copied (3 * w + w / 64) block 0 (omega (arith, c.same)) ∙ stored ∙ ap (λ (x : ℕ). set_minus x own) source) ∙
+          bit_minus (get_or starts (3 * point + w / 64) 0) own (v % 64) (fits (3 * point + w / 64)) own-fits ∙
+          ap₂ (λ (b : ℕ) (t : Bool). has_bit (get_or starts (3 * point + b) 0) (v % 64) && not t) (sym same) (own_bit w own₁ own v first second same) ∙
+          ap (λ (t : Bool). t && not (eqb (v / 2) (w / 2))) (sym (in_row_lem starts point v))
+      row v h false e =
+          let other : v / 64 ≡ w / 64 → ⊥ = eqb-false (v / 64) (w / 64) e in
+          ap (λ (x : ℕ). has_bit x (v % 64)) (get_or-set_other copied (3 * w + w / 64) (3 * w + v / 64) block 0 (λ i. other (omega arith)) ∙ c.block (v / 64) (omega arith)) ∙
+          sym (in_row_lem starts point v) ∙ sym (and-true (in_row starts point v)) ∙
+          ap (λ (t : Bool). in_row starts point v && not t) (sym (ne_eqb (v / 2) (w / 2) (λ i. other (omega arith))))
 
-module _ (starts : List ℕ) (point w : ℕ) (follows : List ℕ) where
-  copied_other : (i : ℕ) → (i ≡ 3 * w → ⊥) → (i ≡ 3 * w + 1 → ⊥) → (i ≡ 3 * w + 2 → ⊥) → get_or (copied starts point w follows) i 0 ≡ get_or follows i 0
-  copied_other i a b c =
-      get_or-set_other (two starts point w follows) (3 * w + 2) i (get_or starts (3 * point + 2) 0) 0 c ∙
-      get_or-set_other (one starts point w follows) (3 * w + 1) i (get_or starts (3 * point + 1) 0) 0 b ∙
-      get_or-set_other follows (3 * w) i (get_or starts (3 * point) 0) 0 a
-
-  module _ (room : 3 * w + 3 ≤ length follows) where
-    copied_block : (b : ℕ) → b < 3 → get_or (copied starts point w follows) (3 * w + b) 0 ≡ get_or starts (3 * point + b) 0
-    copied_block zero h =
-        rw (add-zero (3 * w), add-zero (3 * point)) (
-        get_or-set_other (two starts point w follows) (3 * w + 2) (3 * w) (get_or starts (3 * point + 2) 0) 0 (λ e. omega arith) ∙
-        get_or-set_other (one starts point w follows) (3 * w + 1) (3 * w) (get_or starts (3 * point + 1) 0) 0 (λ e. omega arith) ∙
-        get_or-set_same follows (3 * w) (get_or starts (3 * point) 0) 0 (omega arith)
-        )
-    copied_block (suc zero) h =
-        get_or-set_other (two starts point w follows) (3 * w + 2) (3 * w + 1) (get_or starts (3 * point + 2) 0) 0 (λ e. omega arith) ∙
-        get_or-set_same (one starts point w follows) (3 * w + 1) (get_or starts (3 * point + 1) 0) 0 (simp length-set (omega arith))
-    copied_block (suc (suc zero)) h = get_or-set_same (two starts point w follows) (3 * w + 2) (get_or starts (3 * point + 2) 0) 0 (simp length-set (omega arith))
-    copied_block (suc (suc (suc b))) h = absurd (omega arith)
-
-    -- and one block stored again without the words of the zone of w
-    module _ (small : w < 192) (fits : (i : ℕ) → get_or starts i 0 < 2 ^ 64) {own₁ own block : ℕ} (own-fits : own < 2 ^ 64)
-        (first : own₁ ≡ bit_or 0 (2 ^ (2 * (w / 2) % 64))) (second : own ≡ bit_or own₁ (2 ^ ((2 * (w / 2) + 1) % 64)))
-        (stored : block ≡ set_minus (get_or (copied starts point w follows) (3 * w + w / 64) 0) own) where
-      pub row_filled : RowFilled starts point w follows (set (copied starts point w follows) (3 * w + w / 64) block)
-      row_filled = record { row = λ v h. in_row_lem (set (copied starts point w follows) (3 * w + w / 64) block) w v ∙ row v h (eqb (v / 64) (w / 64)) refl; others = others }
+      others : (j v : ℕ) → (j ≡ w → ⊥) → v < 192 → in_row (set copied (3 * w + w / 64) block) j v ≡ in_row follows j v
+      others j v n h =
+          in_row_lem (set copied (3 * w + w / 64) block) j v ∙
+          ap (λ (x : ℕ). has_bit x (v % 64)) (
+          get_or-set_other copied (3 * w + w / 64) (3 * j + v / 64) block 0 (λ i. n (omega arith)) ∙
+          c.other (3 * j + v / 64) (elsewhere (ltb j w) refl)
+          ) ∙
+          sym (in_row_lem follows j v)
         where
-          row : (v : ℕ) → v < 192 → (t : Bool) → eqb (v / 64) (w / 64) ≡ t
-              → has_bit (get_or (set (copied starts point w follows) (3 * w + w / 64) block) (3 * w + v / 64) 0) (v % 64) ≡ (in_row starts point v && not (eqb (v / 2) (w / 2)))
-          row v h true e =
-              let same : v / 64 ≡ w / 64 = eqb-true (v / 64) (w / 64) e in
-              let source : get_or (copied starts point w follows) (3 * w + w / 64) 0 ≡ get_or starts (3 * point + w / 64) 0 = copied_block (w / 64) (omega arith) in
-              ap (λ (b : ℕ). has_bit (get_or (set (copied starts point w follows) (3 * w + w / 64) block) (3 * w + b) 0) (v % 64)) same ∙
-              ap (λ (x : ℕ). has_bit x (v % 64)) (get_or-set_same (copied starts point w follows) (3 * w + w / 64) block 0 (simp length-set (omega arith)) ∙ stored ∙ ap (λ (x : ℕ). set_minus x own) source) ∙
-              bit_minus (get_or starts (3 * point + w / 64) 0) own (v % 64) (fits (3 * point + w / 64)) own-fits ∙
-              ap₂ (λ (b : ℕ) (t : Bool). has_bit (get_or starts (3 * point + b) 0) (v % 64) && not t) (sym same) (own_bit w own₁ own v first second same) ∙
-              ap (λ (t : Bool). t && not (eqb (v / 2) (w / 2))) (sym (in_row_lem starts point v))
-          row v h false e =
-              let other : v / 64 ≡ w / 64 → ⊥ = eqb-false (v / 64) (w / 64) e in
-              ap (λ (x : ℕ). has_bit x (v % 64)) (get_or-set_other (copied starts point w follows) (3 * w + w / 64) (3 * w + v / 64) block 0 (λ i. other (omega arith)) ∙ copied_block (v / 64) (omega arith)) ∙
-              sym (in_row_lem starts point v) ∙ sym (and-true (in_row starts point v)) ∙
-              ap (λ (t : Bool). in_row starts point v && not t) (sym (ne_eqb (v / 2) (w / 2) (λ i. other (omega arith))))
-
-          others : (j v : ℕ) → (j ≡ w → ⊥) → v < 192 → in_row (set (copied starts point w follows) (3 * w + w / 64) block) j v ≡ in_row follows j v
-          others j v n h =
-              in_row_lem (set (copied starts point w follows) (3 * w + w / 64) block) j v ∙
-              ap (λ (x : ℕ). has_bit x (v % 64)) (
-              get_or-set_other (copied starts point w follows) (3 * w + w / 64) (3 * j + v / 64) block 0 (λ i. n (omega arith)) ∙
-              copied_other (3 * j + v / 64) (λ i. n (omega arith)) (λ i. n (omega arith)) (λ i. n (omega arith))
-              ) ∙
-              sym (in_row_lem follows j v)
+          elsewhere : (t : Bool) → ltb j w ≡ t → (3 * j + v / 64 < 3 * w) ⊎ (3 * w + 3 ≤ 3 * j + v / 64)
+          elsewhere true e = inl (omega (arith, ltb-true j w e))
+          elsewhere false e = inr (omega (arith, ltb-false j w e))
 
 -- the rows of the words below one
-
-pub follows_none : (zones : ℕ) (ends follows : List ℕ) → Follows zones 0 ends follows
-follows_none zones ends follows = record { row = λ w v h _. absurd (omega arith) }
 
 pub follows_more : {zones w point : ℕ} {ends starts follows follows' : List ℕ} → EndsSized zones ends → Starts (2 * zones) ends starts → w < 2 * zones → point ≡ get_or ends (rev w) 0
     → Follows zones w ends follows → RowFilled starts point w follows follows' → Follows zones (w + 1) ends follows'

@@ -1,3 +1,4 @@
+pub mod InCode
 pub mod WordSetLaws
 pub mod FollowLaws
 pub mod Filling
@@ -5,6 +6,6 @@ pub mod BlockLaws
 pub mod OfferBlocks
 pub mod Queued
 pub mod Appending
-pub mod QueueArrays
+pub mod QueueLists
 pub mod OfferLaws
 pub mod Routing

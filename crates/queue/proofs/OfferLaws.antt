@@ -1,5 +1,5 @@
 -- An offering of the words that come after a word and may still be entered is the offering of the next words of the older rule, which no home gate
--- shuts, and the arrays are a queue again.
+-- shuts, and the lists are a queue again.
 -- What comes after on the track, may be entered and is not in the queue is what the table and the set have in common.
 use Prim.Native.Nat.{ℕ, ◌+◌, ◌-◌, ◌*◌, ◌≤◌, ◌<◌}
 use mathlib.Core.Path.{◌≡◌, refl, sym, ◌∙◌, ap, ap₂}
@@ -7,7 +7,7 @@ use mathlib.Core.List.{List, ◌++◌, map, append-nil, append_assoc, Memᴰ}
 use mathlib.Core.Bool.{Bool, true, false, not, ◌&&◌, ◌||◌, and-false}
 use native.Mathlib.Omega.{arith}
 use lib.ListN.{length, get_or, take, drop, length-append, length-map, get_or-append}
-use lib.Seq.{get_or-take, length-take-le, take_at, get_or-append-add}
+use lib.Seq.{get_or-take, length-take-le, take_at, get_or-append-add, length-sets}
 use lib.Dec.{eqb, ltb}
 use borrow.Author.Tests.{ltb-true, ltb-false, lt-ltb, le-ltb}
 use Rattle.model.specs.Lists.{count_up, numbers_below, keep, any_of, how_many, overwritten_at}
@@ -16,6 +16,7 @@ use Rattle.model.proofs.BoolLaws.{same_test}
 use Rattle.model.proofs.ListLaws.{mem_below, below_mem, mem_count_up, count_up_append, mem_keep, keep_mem, keep_append, keep_ext, keep_none, any_append, any_mem, mem_any}
 use Rattle.model.proofs.CountLaws.{how_many_below, how_many_below_ext, how_many_either}
 use Rattle.model.proofs.PlaceLaws.{get_or_mem, get_or_map}
+use Rattle.model.proofs.StoreLaws.{overwritten_sets}
 use Rattle.rules.specs.Key.{may_enter, ungated_steps, nexts_by}
 use Rattle.least.specs.Queue.{offer_all}
 use Rattle.queue.specs.WordSets.{in_set}
@@ -23,9 +24,9 @@ use Rattle.queue.specs.Follows.{BoardTable, in_row, comes_after}
 use Rattle.queue.specs.Offers.{QueueRoom, enterable_after, Offered}
 use Rattle.queue.proofs.Queued.{zones_only, queue_in, Queued}
 use Rattle.queue.proofs.Appending.{offer_row}
-use Rattle.queue.proofs.QueueArrays.{queued_most}
+use Rattle.queue.proofs.QueueLists.{queued_most}
 
--- words stored at place n of an array: what is before them, and they themselves
+-- words stored at place n of a list: what is before them, and they themselves
 
 module _ (vs l l' : List ℕ) (n : ℕ) (room : n ≤ length l) (stored : take (n + length vs) l' ≡ take n l ++ vs) where
   stored_before : (j : ℕ) → j < n → get_or l' j 0 ≡ get_or l j 0
@@ -41,11 +42,15 @@ module _ (vs l l' : List ℕ) (n : ℕ) (room : n ≤ length l) (stored : take (
       ap₂ (λ (x : List ℕ) (k : ℕ). get_or x (k + j) 0) stored (sym (length-take-le n l room)) ∙
       get_or-append-add (take n l) vs j 0
 
--- the array up to the end of what is stored
+-- the list up to the end of what is stored
 taken : (vs l l' : List ℕ) (n : ℕ) → n ≤ length l → l' ≡ overwritten_at n vs l → take (n + length vs) l' ≡ take n l ++ vs
 taken vs l l' n room e =
     ap (take (n + length vs)) (e ∙ sym (append_assoc (take n l) vs (drop (n + length vs) l))) ∙
     take_at (take n l ++ vs) (drop (n + length vs) l) (n + length vs) (length-append (take n l) vs ∙ ap (λ (k : ℕ). k + length vs) (length-take-le n l room))
+
+-- the list is as long as it was
+length_stored : (vs l : List ℕ) (n : ℕ) → n + length vs ≤ length l → length (overwritten_at n vs l) ≡ length l
+length_stored vs l n room = ap length (sym (overwritten_sets l n vs room)) ∙ length-sets l n vs
 
 -- tests in another grouping
 both_pairs : (a b c d : Bool) → ((a && (b && c)) && d) ≡ ((a && b) && (c && d))
@@ -151,10 +156,11 @@ module _ {zones : ℕ} {ends p follows : List ℕ} (t : BoardTable zones ends p 
         ap (λ (l : List ℕ). record { words = take found words ++ l; froms = take found froms ++ map (λ v. i) l }) (sym next_is) ∙
         sym (offer_row (ungated_steps (zones_only zones ends) p c last) i 0 m (queue_in words froms found))
 
-    pub offered_queued : length words' ≡ length words → length froms' ≡ length froms → length enterable' ≡ length enterable → Queued m p c words' froms' enterable' r
-    offered_queued a b d = record {
-      room_words = omega (arith, a, q.room_words);
-      room_froms = omega (arith, b, q.room_froms);
+    pub offered_queued : length enterable' ≡ length enterable → Queued m p c words' froms' enterable' r
+    offered_queued d = record {
+      room_words = omega (arith, length_stored next words found offered_room.in_words, ap length o.stored.words_stored, q.room_words);
+      room_froms =
+          omega (arith, length_stored (map (λ v. i) next) froms found (rw length-map offered_room.in_froms), ap length o.stored.froms_stored, q.room_froms);
       blocks = d ∙ q.blocks;
       inside = λ j h. inside j h (ltb j found) refl;
       falls = λ j l h. falls j l h (ltb j found) refl;

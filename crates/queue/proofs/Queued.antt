@@ -1,4 +1,4 @@
--- The queue of one carrier's search in its arrays: what they hold while words are found.
+-- The queue of one carrier's search in its two lists: what they hold while words are found.
 -- Definitions that the laws of the offering and of the search share; no contract names them.
 use Prim.Native.Nat.{ℕ, ◌≤◌, ◌<◌}
 use mathlib.Core.List.{List}
@@ -17,11 +17,11 @@ use Rattle.queue.specs.WordSets.{in_set}
 abbrev pub zones_only : ℕ → List ℕ → Track
 zones_only zones ends = record { points = 0; home = 0; zones = zones; ends = ends }
 
--- the queue in two arrays: their first `found` entries
+-- the queue in two lists: their first `found` entries
 abbrev pub queue_in : List ℕ → List ℕ → ℕ → Queue
 queue_in words froms found = record { words = take found words; froms = take found froms }
 
--- the arrays of carrier c's search over m words, with so many found
+-- the lists of carrier c's search over m words, with so many found
 pub record Queued (m : ℕ) (p : Position) (c : ℕ) (words froms enterable : List ℕ) (found : ℕ) : Type 0 where
   pub room_words : m ≤ length words
   pub room_froms : m ≤ length froms

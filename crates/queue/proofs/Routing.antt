@@ -1,17 +1,18 @@
 -- Laws of the route that is read back from a place of the queue: its count does not depend on the words, and it is stored from its end backwards.
 -- Each step goes to an earlier place, so the steps allowed are always enough; the words passed so far decide the rest.
 use Prim.Native.Nat.{ℕ, zero, suc, ◌+◌, ◌-◌, ◌≤◌, ◌<◌}
-use mathlib.Core.Path.{◌≡◌, refl, sym, ◌∙◌, ap, ap₂, subst}
-use mathlib.Core.List.{List, [], ◌∷◌, ◌++◌, append_assoc}
+use mathlib.Core.Path.{◌≡◌, refl, sym, ◌∙◌, ap, subst}
+use mathlib.Core.List.{List, [], ◌∷◌, ◌++◌, append-nil}
+use mathlib.Core.Bool.{Bool, true, false}
+use borrow.Author.Tests.{ltb-true, ltb-false}
+use lib.Dec.{ltb}
 use native.Mathlib.Omega.{arith}
-use native.Mathlib.Numerals.{add-one, add-two}
 use lib.Arith.{le-zero}
-use lib.ListN.{length, get_or, take, drop, set, length-set, take-append-drop}
-use lib.Seq.{take-suc, append_snoc, set_at, length-take-le, take-suc-set, drop-set-lt}
+use lib.ListN.{length, get_or, take, drop, set, length-set, length-take, length-drop}
+use lib.Seq.{take-length, take-suc, append_snoc, set_at, length-take-le}
 use Rattle.least.specs.Queue.{Queue, path_onto, path_to}
 use Rattle.least.proofs.PathLaws.{path_length}
-use Rattle.model.specs.Lists.{overwritten_at}
-use Rattle.queue.specs.Written.{route_to, Falling, entry_of, EntryRoom, EntryWritten}
+use Rattle.queue.specs.Written.{route_to, Falling, EntryRoom}
 
 abbrev queue : List ℕ → List ℕ → Queue
 queue words froms = record { words = words; froms = froms }
@@ -107,26 +108,27 @@ module _ {froms : List ℕ} {place n j : ℕ} (f : Falling froms place) (c : Cou
   counting_done h = sym c.counted ∙ ap length (back_done c.back h)
 
 -- the storing, with the words from k on stored
-pub record StoringRoute (words froms : List ℕ) (place : ℕ) (plan₀ : List ℕ) (end : ℕ) (plan : List ℕ) (k j : ℕ) : Type 0 where
+pub record StoringRoute (words froms : List ℕ) (place : ℕ) (route₀ route : List ℕ) (k j : ℕ) : Type 0 where
   pub left : List ℕ
-  pub back : Back words froms place j left
-  pub counted : k + length left ≡ end
-  pub room : length (route_to words froms place) ≤ end
-  pub inside : end ≤ length plan₀
-  pub same : length plan ≡ length plan₀
-  pub stored : plan ≡ take k plan₀ ++ (left ++ drop end plan₀)
+  pub counted : k + length left ≡ length (route_to words froms place)
+  -- with all stored, j is no place of the route
+  pub back : 0 < k → Back words froms place j left
+  pub all : k ≡ 0 → left ≡ route_to words froms place
+  pub as_long : length route₀ ≡ length (route_to words froms place)
+  pub stored : route ≡ take k route₀ ++ left
 
-pub storing_starts : (words froms : List ℕ) (place : ℕ) (plan : List ℕ) (end : ℕ) → length (route_to words froms place) ≤ end → end ≤ length plan
-    → StoringRoute words froms place plan end plan end place
-storing_starts words froms place plan end r h = record {
+pub storing_starts : (words froms : List ℕ) (place : ℕ) (route : List ℕ) → length route ≡ length (route_to words froms place) → StoringRoute words froms place route route (length route) place
+storing_starts words froms place route e = record {
   left = [];
-  back = back_starts;
-  counted = omega arith;
-  room = r;
-  inside = h;
-  same = refl;
-  stored = sym (take-append-drop end plan);
+  counted = omega (arith, e);
+  back = λ h. back_starts;
+  all = λ z. absurd (omega (arith, e, some_word));
+  as_long = e;
+  stored = sym (ap (λ (l : List ℕ). l ++ []) (take-length route) ∙ append-nil route);
 }
+  where
+    some_word : 0 < length (route_to words froms place)
+    some_word = back_longer (back_starts {words = words} {froms = froms} {place = place})
 
 -- a store right before what is stored
 store_before : (l r : List ℕ) (k v : ℕ) → 0 < k → k ≤ length l → set (take k l ++ r) (k - 1) v ≡ take (k - 1) l ++ (v ∷ r)
@@ -135,55 +137,28 @@ store_before l r (suc i) v h b =
     let e : suc i - 1 ≡ i = omega arith in
     rw e (ap (λ (m : List ℕ). set (m ++ r) i v) (take-suc l i 0 b) ∙ ap (λ (m : List ℕ). set m i v) (append_snoc (take i l) (get_or l i 0) r) ∙ set_at (take i l) (get_or l i 0) r v i (length-take-le i l (omega arith)))
 
-module _ {words froms : List ℕ} {place : ℕ} {plan₀ : List ℕ} {end : ℕ} {plan : List ℕ} {k j : ℕ} (s : StoringRoute words froms place plan₀ end plan k j) where
-  pub storing_room : 0 < k
-  storing_room = omega (arith, s.counted, s.room, back_longer s.back)
-
-  pub storing_inside : k - 1 < length plan
-  storing_inside = omega (arith, s.counted, s.same, s.inside, storing_room)
-
-  store : (v : ℕ) → set plan (k - 1) v ≡ take (k - 1) plan₀ ++ ((v ∷ s.left) ++ drop end plan₀)
-  store v = ap (λ (l : List ℕ). set l (k - 1) v) s.stored ∙ store_before plan₀ (s.left ++ drop end plan₀) k v storing_room (omega (arith, s.counted, s.inside))
-
-  pub storing_more : Falling froms place → 0 < j → StoringRoute words froms place plan₀ end (set plan (k - 1) (get_or words j 0)) (k - 1) (get_or froms j 0)
-  storing_more f h = record {
+module _ {words froms : List ℕ} {place : ℕ} {route₀ route : List ℕ} {k j : ℕ} (s : StoringRoute words froms place route₀ route k j) (some : 0 < k) where
+  pub storing_more : Falling froms place → StoringRoute words froms place route₀ (set route (k - 1) (get_or words j 0)) (k - 1) (get_or froms j 0)
+  storing_more f = record {
     left = get_or words j 0 ∷ s.left;
-    back = back_more s.back f h;
-    counted = omega (arith, s.counted, storing_room);
-    room = s.room;
-    inside = s.inside;
-    same = length-set plan (k - 1) (get_or words j 0) ∙ s.same;
-    stored = store (get_or words j 0);
+    counted = omega (arith, s.counted, some);
+    back = λ h. back (ltb 0 j) refl h;
+    all = λ z. all (ltb 0 j) refl z;
+    as_long = s.as_long;
+    stored = ap (λ (l : List ℕ). set l (k - 1) (get_or words j 0)) s.stored ∙ store_before route₀ s.left k (get_or words j 0) some (omega (arith, s.counted, s.as_long));
   }
-
-  pub storing_done : j ≤ 0 → set plan (k - 1) (get_or words 0 0) ≡ overwritten_at (end - length (route_to words froms place)) (route_to words froms place) plan₀
-  storing_done h =
-      store (get_or words 0 0) ∙
-      ap₂ (λ (a : ℕ) (r : List ℕ). take a plan₀ ++ (r ++ drop end plan₀)) before route ∙
-      ap (λ (b : ℕ). take (end - length (route_to words froms place)) plan₀ ++ (route_to words froms place ++ drop b plan₀)) after
     where
-      route : get_or words 0 0 ∷ s.left ≡ route_to words froms place
-      route = back_done s.back h
+      back : (t : Bool) → ltb 0 j ≡ t → 0 < k - 1 → Back words froms place (get_or froms j 0) (get_or words j 0 ∷ s.left)
+      back true e h = back_more (s.back some) f (ltb-true 0 j e)
+      back false e h = absurd (omega (arith, s.counted, ap length (back_done (s.back some) (ltb-false 0 j e))))
 
-      before : k - 1 ≡ end - length (route_to words froms place)
-      before = omega (arith, ap length route, s.counted)
-
-      after : end ≡ end - length (route_to words froms place) + length (route_to words froms place)
-      after = omega (arith, s.room)
+      all : (t : Bool) → ltb 0 j ≡ t → k - 1 ≡ 0 → get_or words j 0 ∷ s.left ≡ route_to words froms place
+      all true e z = absurd (omega (arith, s.counted, back_longer (back_more (s.back some) f (ltb-true 0 j e))))
+      all false e z =
+          let first : j ≡ 0 = omega (arith, ltb-false 0 j e) in
+          rw first (back_done (s.back some) (omega arith))
 
 -- the entry: carrier and count before the route
-
-module _ (plan : List ℕ) (k c n : ℕ) (room : k + 1 < length plan) where
-  two_stored : take (k + 2) (set (set plan k c) (k + 1) n) ≡ take k plan ++ (c ∷ n ∷ [])
-  two_stored =
-      rw add-two
-      (ap (λ (i : ℕ). take (suc (suc k)) (set (set plan k c) i n)) (add-one k) ∙
-      take-suc-set (set plan k c) (suc k) n (rw length-set (omega arith)) ∙
-      ap (λ (l : List ℕ). l ++ (n ∷ [])) (take-suc-set plan k c (omega arith)) ∙
-      append_assoc (take k plan) (c ∷ []) (n ∷ []))
-
-  two_beyond : (i : ℕ) → k + 2 ≤ i → drop i (set (set plan k c) (k + 1) n) ≡ drop i plan
-  two_beyond i h = drop-set-lt i (set plan k c) (k + 1) n (omega arith) ∙ drop-set-lt i plan k c (omega arith)
 
 module _ {carrier place : ℕ} {words froms plan : List ℕ} {k : ℕ} (e : EntryRoom carrier place words froms plan k) {n : ℕ} (counted : n ≡ length (route_to [] froms place)) where
   pub entry_count : n ≡ length (route_to words froms place)
@@ -199,21 +174,6 @@ module _ {carrier place : ℕ} {words froms plan : List ℕ} {k : ℕ} (e : Entr
   pub entry_fits : (a b : ℕ) → (length (route_to words froms place) ≤ k + 2 + n) × (k + 2 + n ≤ length (set (set plan k a) (k + 1) b))
   entry_fits a b = (omega (arith, entry_count), simp length-set entry_room)
 
-  pub entry_written : {plan' : List ℕ}
-      → plan' ≡ overwritten_at (k + 2 + n - length (route_to words froms place)) (route_to words froms place) (set (set plan k carrier) (k + 1) n)
-      → EntryWritten carrier place words froms plan k plan' (k + 2 + n)
-  entry_written {plan'} w = record {
-    next = omega (arith, entry_count);
-    stored =
-        w ∙
-        ap (λ (i : ℕ). overwritten_at i (route_to words froms place) (set (set plan k carrier) (k + 1) n)) start ∙
-        ap₂ (λ (a b : List ℕ). a ++ (route_to words froms place ++ b)) (two_stored plan k carrier n (omega (arith, e.room))) (two_beyond plan k carrier n (omega (arith, e.room)) (k + 2 + length (route_to words froms place)) (omega arith)) ∙
-        append_assoc (take k plan) (carrier ∷ n ∷ []) (route_to words froms place ++ drop (k + 2 + length (route_to words froms place)) plan) ∙
-        ap₂ (λ (m i : ℕ). take k plan ++ (carrier ∷ m ∷ (route_to words froms place ++ drop i plan))) entry_count end;
-  }
-    where
-      start : k + 2 + n - length (route_to words froms place) ≡ k + 2
-      start = omega (arith, entry_count)
-
-      end : k + 2 + length (route_to words froms place) ≡ k + length (entry_of carrier (route_to words froms place))
-      end = omega arith
+  -- the part of the plan for the words is as long as they are
+  pub entry_part : (a b : ℕ) → length (take (k + 2 + n - (k + 2)) (drop (k + 2) (set (set plan k a) (k + 1) b))) ≡ length (route_to words froms place)
+  entry_part a b = simp (length-take, length-drop, length-set) (omega (arith, entry_count, entry_room))

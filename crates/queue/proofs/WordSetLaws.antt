@@ -1,9 +1,9 @@
--- What is in a set of words after a word or a zone more, and in the set of the free zones' words with the zones below one done.
--- A word more changes one bit of one block; a zone is two words; each step is one zone more of those that are done.
-use Prim.Native.Nat.{ℕ, ◌+◌, ◌*◌, ◌/◌, ◌%◌, ◌^◌, ◌≤◌, ◌<◌}
+-- What is in a set of words after a word more, and in the set of the free zones' words with the zones below one done.
+-- A word more changes one bit of one block; each step is one zone more of those that are done.
+use Prim.Native.Nat.{ℕ, ◌+◌, ◌/◌, ◌%◌, ◌^◌, ◌≤◌, ◌<◌}
 use mathlib.Core.Path.{◌≡◌, refl, sym, ap, ap₂, ◌∙◌}
 use mathlib.Core.List.{List}
-use mathlib.Core.Bool.{Bool, true, false, ◌&&◌, ◌||◌, and-true, and-false, or-false, or_assoc}
+use mathlib.Core.Bool.{Bool, true, false, ◌&&◌, ◌||◌, and-true, and-false, or-false}
 use native.Mathlib.Omega.{arith}
 use borrow.Author.Tests.{eqb-true, eqb-false, eq-eqb, ne_eqb, ltb-true, lt-ltb, le-ltb}
 use lib.ListN.{length, get_or, set, replicate}
@@ -15,7 +15,7 @@ use Rattle.model.proofs.BoolLaws.{same_test}
 use Rattle.model.proofs.ListLaws.{get_or_zeros}
 use Rattle.bits.specs.Sets.{has_bit}
 use Rattle.bits.proofs.BitLaws.{bit_with, bit_none}
-use Rattle.queue.specs.WordSets.{in_set, Added, ZoneAdded, Fillable, FreeWords}
+use Rattle.queue.specs.WordSets.{in_set, Added, ZoneAdded, Fillable}
 
 -- two tests for equal numbers agree where the one equation holds with the other
 pub same_eqb : (a b c d : ℕ) → (a ≡ b → c ≡ d) → (c ≡ d → a ≡ b) → eqb a b ≡ eqb c d
@@ -56,14 +56,6 @@ word_added l w b h stored = record { has = λ v. go v (eqb (v / 64) (w / 64)) re
         sym (or-false (in_set l v)) ∙
         ap (λ (t : Bool). in_set l v || t) (sym (ne_eqb v w (λ q. other (ap (λ (x : ℕ). x / 64) q))))
 
--- the two words of a zone, one after the other
-pub zone_added : (z : ℕ) (l m n : List ℕ) → Added (2 * z) l m → Added (2 * z + 1) m n → ZoneAdded z l n
-zone_added z l m n a b = record { has = λ v. b.has v ∙ ap (λ (t : Bool). t || eqb v (2 * z + 1)) (a.has v) ∙ or_assoc (in_set l v) (eqb v (2 * z)) (eqb v (2 * z + 1)) ∙ ap (λ (t : Bool). in_set l v || t) (one_zone v (eqb v (2 * z)) refl) }
-  where
-    one_zone : (v : ℕ) (t : Bool) → eqb v (2 * z) ≡ t → (t || eqb v (2 * z + 1)) ≡ eqb (v / 2) z
-    one_zone v true e = let same : v ≡ 2 * z = eqb-true v (2 * z) e in sym (eq-eqb (v / 2) z (omega arith))
-    one_zone v false e = let other : v ≡ 2 * z → ⊥ = eqb-false v (2 * z) e in same_eqb v (2 * z + 1) (v / 2) z (λ q. omega arith) (λ q. omega arith)
-
 -- the filling, with the zones below z done
 pub record FreeBelow (p : Position) (l : List ℕ) (z : ℕ) : Type 0 where
   pub low : z ≤ length p
@@ -103,6 +95,3 @@ module _ {p : Position} {l : List ℕ} {z : ℕ} (f : FreeBelow p l z) (h : z < 
         ap (λ (t : Bool). (ltb (v / 2) z && is_free p (v / 2)) || t) (sym (and-false (eqb (v / 2) z)) ∙ ap (λ (t : Bool). eqb (v / 2) z && t) (sym (ne_eqb (get_or p z 0) 0 held))) ∙
         sym (next_below (is_free p) (v / 2) z);
   }
-
-pub free_done : {p : Position} {l : List ℕ} {z : ℕ} → FreeBelow p l z → length p ≤ z → FreeWords p l
-free_done {p} {l} {z} f e = let all : z ≡ length p = omega (arith, f.low) in record { has = λ v. f.has v ∙ ap (λ (n : ℕ). ltb (v / 2) n && is_free p (v / 2)) all }

@@ -1,4 +1,5 @@
 pub mod WordSets
 pub mod Follows
+pub mod Queue
 pub mod Offers
 pub mod Written

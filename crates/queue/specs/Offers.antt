@@ -1,4 +1,4 @@
--- Words put at the end of a queue in two arrays: those that come after a word and may still be entered.
+-- Words put at the end of a queue, as two lists: those that come after a word and may still be entered.
 use Rattle.std.specs.Prelude.{ℕ, ◌+◌, ◌-◌, ◌*◌, ◌≤◌, ◌<◌, List, map, ◌≡◌, not, ◌&&◌, length}
 use Rattle.model.specs.Lists.{count_up, numbers_below, keep, overwritten_at}
 use Rattle.bits.specs.Sets.{has_bit}

@@ -3,7 +3,7 @@ use Rattle.std.specs.Prelude.{ℕ, ◌+◌, ◌≤◌, ◌<◌, List, ◌∷◌,
 use Rattle.model.specs.Lists.{overwritten_at}
 use Rattle.least.specs.Queue.{path_to}
 
--- the words from place 0 to a place of the queue in two arrays
+-- the words from place 0 to a place of the queue in two lists
 abbrev pub route_to : List ℕ → List ℕ → ℕ → List ℕ
 route_to words froms place = path_to (record { words = words; froms = froms }) place
 

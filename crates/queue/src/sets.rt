@@ -24,12 +24,10 @@ pub fn add_free(position: &[u32], set: &mut [u64])
     requires { Fillable position.now set.old }
     ensures { FreeWords position.now set.new }
 {
-    let mut z = 0;
-    while z < position.len() {
-        let free = position[z] == 0;
+    for (z, held) in position.iter().enumerate() {
+        let free = *held == 0;
         if free {
             add_zone(z, set);
         }
-        z += 1;
     }
 }

@@ -1,6 +1,7 @@
 // One growing step, and what is carried from step to step through all the free parts of a board: the points grown from, and the count of
 // steps. The fields of `GrownFrom` are private to this file, so that no growing and none of its callers makes up a point or a step. A
-// growing reads the ways by the step alone.
+// growing reads the ways by the step alone: these are functions from value to value, and no methods that change one, since .ci/check-growing lets
+// a growing read nothing behind a reference.
 ghost use Rattle.std.specs.Prelude.{◌≡◌, false, ◌+◌, ◌^◌, ◌<◌, length, get_or};
 ghost use Rattle.std.specs.Int.Bits.{bit_or};
 ghost use Rattle.bits.specs.Sets.{has_bit, set_minus};

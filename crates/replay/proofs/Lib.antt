@@ -1,4 +1,3 @@
 pub mod Replaying
-pub mod Showing
 pub mod ReplayLaws
 pub mod ReplayPromised

@@ -3,13 +3,11 @@
 -- Each case of the definition by its tests. What is shown has one word a zone, so past the zones the sheet stays as it was.
 use Prim.Native.Nat.{ℕ, ◌%◌, ◌≤◌, ◌<◌}
 use mathlib.Core.List.{List, ◌++◌}
-use mathlib.Core.Path.{◌≡◌, refl, sym, ap, ap₂, ◌∙◌, subst}
+use mathlib.Core.Path.{◌≡◌, refl, sym, ap, ap₂, subst}
 use mathlib.Core.Bool.{Bool, true, false, cond, not}
-use lib.ListN.{length, take, drop}
-use lib.Seq.{take_at, drop_at}
+use lib.ListN.{length, drop}
 use lib.Dec.{ltb, eqb}
 use borrow.Author.Tests.{lt-ltb, le-ltb, eq-eqb, ne_eqb, ltb-true, ltb-false, eqb-true, eqb-false}
-use Rattle.model.specs.Lists.{overwritten}
 use Rattle.model.specs.Track.{Track}
 use Rattle.model.specs.Position.{Position}
 use Rattle.model.specs.Accepted.{Laid, Ready}
@@ -55,28 +53,14 @@ module _ (t : Track) (p : Position) (log sheet : List ℕ) where
 pub shown_each : {t : Track} {p : Position} (log : List ℕ) → Laid t p → length (replay_for t p (moves_said log)).shown ≡ t.zones
 shown_each {t} {p} log laid = (replay_right t p (moves_said log) laid).laid.each
 
--- the position on the sheet, and then the moves
-module _ {t : Track} {p : Position} {shown : List ℕ} (sheet : List ℕ) (ready : Ready t p) (copied : shown ≡ overwritten p sheet) where
-  zones_shown : take t.zones shown ≡ p
-  zones_shown = ap (take t.zones) copied ∙ take_at p (drop (length p) sheet) t.zones ready.bounded.laid.each
-
-  pub shown_ready : Ready t (take t.zones shown)
-  shown_ready = subst (Ready t) (sym zones_shown) ready
-
-  rest_lent : drop t.zones shown ≡ drop t.zones sheet
-  rest_lent = ap (drop t.zones) copied ∙ drop_at p (drop (length p) sheet) t.zones ready.bounded.laid.each ∙ ap (λ (n : ℕ). drop n sheet) ready.bounded.laid.each
-
-  pub moves_given : (log : List ℕ) {number moves : ℕ} {q : Position} → t.zones ≤ length sheet → length log % 2 ≡ 0
-      → MovesGiven (replay_for t (take t.zones shown) (moves_said log)) number moves q
-      → ReplayGiven (replay_in t p log (length sheet)) sheet number moves (q ++ drop t.zones shown)
-  moves_given log {number} {moves} {q} room even given =
-      let e = in_whole t p log (length sheet) room even in
-      let done = subst (λ (r : Position). MovesGiven (replay_for t r (moves_said log)) number moves q) zones_shown given in
-      record {
-        number_is = rw e done.number_is;
-        moves_is = rw e done.moves_is;
-        sheet_is =
-            rw e
-            (ap₂ (λ (l m : List ℕ). l ++ m) done.position_is rest_lent
-            ∙ ap (λ (n : ℕ). (replay_for t p (moves_said log)).shown ++ drop n sheet) (sym (shown_each log ready.bounded.laid)));
-      }
+-- the moves on the sheet's first words, which were the position
+pub moves_given : {t : Track} {p shown : Position} (log sheet : List ℕ) {number moves : ℕ} {q : Position} → Ready t p → shown ≡ p → t.zones ≤ length sheet → length log % 2 ≡ 0
+    → MovesGiven (replay_for t shown (moves_said log)) number moves q → ReplayGiven (replay_in t p log (length sheet)) sheet number moves (q ++ drop t.zones sheet)
+moves_given {t} {p} log sheet {number} {moves} {q} ready copied room even given =
+    let e = in_whole t p log (length sheet) room even in
+    let done = subst (λ (r : Position). MovesGiven (replay_for t r (moves_said log)) number moves q) copied given in
+    record {
+      number_is = rw e done.number_is;
+      moves_is = rw e done.moves_is;
+      sheet_is = rw e (ap₂ (λ (l : List ℕ) (n : ℕ). l ++ drop n sheet) done.position_is (sym (shown_each log ready.bounded.laid)));
+    }

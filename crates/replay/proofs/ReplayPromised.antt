@@ -3,7 +3,7 @@
 -- By the definition's three tests, and what the reader hands on; 0 and 38 are the numbers of no refusal.
 use Prim.Native.Nat.{ℕ, ◌%◌, ◌≤◌}
 use mathlib.Core.List.{List}
-use mathlib.Core.Path.{◌≡◌, refl, sym, ap, ap₂, ◌∙◌, subst}
+use mathlib.Core.Path.{◌≡◌, refl, sym, ap, ap₂, ◌∙◌, subst, subst₂}
 use mathlib.Core.Logic.{◌⊎◌, inl, inr}
 use native.Mathlib.Omega.{arith}
 use lib.ListN.{length, take, drop}
@@ -11,16 +11,14 @@ use lib.Seq.{take_at, drop_at}
 use Rattle.model.specs.Lists.{overwritten}
 use Rattle.model.specs.Track.{Track}
 use Rattle.model.specs.Position.{Position}
-use Rattle.model.specs.Accepted.{Laid}
-use Rattle.model.specs.Reading.{Bytes, refusal, track_said, position_said}
-use Rattle.model.proofs.ReadingLaws.{refusal_small, if_accepted, if_refused, ready_said}
+use Rattle.model.specs.Accepted.{Laid, Ready}
+use Rattle.model.specs.Reading.{refusal, track_said, position_said}
+use Rattle.model.proofs.ReadingLaws.{refusal_small, if_accepted, if_refused}
 use Rattle.movelog.specs.Log.{moves_said}
 use Rattle.movelog.specs.Replay.{ReplayAnswer, replay_for, replay_refused, replay_in, replay_of}
 use Rattle.movelog.specs.ReplayRight.{ReplayRight}
 use Rattle.movelog.proofs.ReplayMet.{replay_right}
-use Rattle.board.specs.declared.Board.{Board}
-use Rattle.board.specs.Given.{board_of}
-use Rattle.board.proofs.ReadBoard.{track_read, position_read, Said, number_read}
+use Rattle.board.specs.OnBoard.{OnBoard}
 use Rattle.replay.specs.Given.{ReplayGiven}
 use Rattle.replay.specs.Operation.{Replayable, ReplayPromise}
 use Rattle.replay.proofs.ReplayLaws.{in_whole, in_cases, shown_each}
@@ -36,21 +34,20 @@ module _ (b log : List ℕ) (room : ℕ) where
 
 -- a refused board
 
-pub replay_turned_back : (b log sheet : List ℕ) {r : Board} → r ≡ board_of b → (r.number ≡ 0 → ⊥) → ReplayPromise b log sheet r.number 0 sheet
-replay_turned_back b log sheet {r} e n =
-    let m : r.number ≡ refusal b = number_read b e in
-    let a = of_refused b log (length sheet) (λ k. n (m ∙ k)) in
+pub replay_turned_back : (b log sheet : List ℕ) {number : ℕ} → (refusal b ≡ 0 → ⊥) → number ≡ refusal b → ReplayPromise b log sheet number 0 sheet
+replay_turned_back b log sheet {number} n m =
+    let a = of_refused b log (length sheet) n in
     record {
       given = record { number_is = rw a m; moves_is = rw a; sheet_is = rw a };
       past = refl;
-      right = λ d. absurd (n (m ∙ d.accepted));
-      limited = λ d. absurd (n (m ∙ d.accepted));
+      right = λ d. absurd (n d.accepted);
+      limited = λ d. absurd (n d.accepted);
       only = λ o. absurd (other o);
     }
   where
-    other : (r.number ≡ 0) ⊎ (r.number ≡ 38) → ⊥
-    other (inl z) = n z
-    other (inr z) = omega (arith, number_read b e, refusal_small b)
+    other : (number ≡ 0) ⊎ (number ≡ 38) → ⊥
+    other (inl z) = n (sym m ∙ z)
+    other (inr z) = omega (arith, m, refusal_small b)
 
 -- an accepted board
 
@@ -80,17 +77,17 @@ shown_right {t} {p} log sheet {sheet'} laid room even given =
     rw (shown, given.number_is ∙ ap (λ (x : ReplayAnswer). x.number) a, given.moves_is ∙ ap (λ (x : ReplayAnswer). x.moves) a) (replay_right t p (moves_said log) laid)
 
 -- the inner replay's answer on what was read
-pub replay_promised : {b log sheet sheet' : List ℕ} {r : Board} {number moves : ℕ} → Bytes b → Said b r
-    → ReplayGiven (replay_in (track_read r) (position_read r) log (length sheet)) sheet number moves sheet' → ReplayPromise b log sheet number moves sheet'
-replay_promised {b} {log} {sheet} {sheet'} {r} {number} {moves} small s given =
+pub replay_promised : {b log sheet sheet' : List ℕ} {t : Track} {p : Position} {number moves : ℕ} → OnBoard b t p
+    → ReplayGiven (replay_in t p log (length sheet)) sheet number moves sheet' → ReplayPromise b log sheet number moves sheet'
+replay_promised {b} {log} {sheet} {sheet'} {number = number} {moves} on given =
     let t = track_said b in
     let p = position_said b in
-    let ready = ready_said b small s.accepted in
+    let ready = subst₂ Ready on.track on.position on.ready in
     let laid = ready.bounded.laid in
-    let same = ap₂ (λ (u : Track) (q : Position). replay_in u q log (length sheet)) s.track s.position in
+    let same = ap₂ (λ (u : Track) (q : Position). replay_in u q log (length sheet)) on.track on.position in
     let inner : ReplayGiven (replay_in t p log (length sheet)) sheet number moves sheet' = subst (λ (a : ReplayAnswer). ReplayGiven a sheet number moves sheet') same given in
     record {
-      given = subst (λ (a : ReplayAnswer). ReplayGiven a sheet number moves sheet') (sym (of_read b log (length sheet) s.accepted)) inner;
+      given = subst (λ (a : ReplayAnswer). ReplayGiven a sheet number moves sheet') (sym (of_read b log (length sheet) on.accepted)) inner;
       past = ap (drop t.zones) inner.sheet_is ∙ past_lent t p log (length sheet) laid sheet;
       right = λ d. shown_right log sheet laid d.room d.pairs inner;
       limited = λ d. (shown_right log sheet laid d.room d.pairs inner).limited ready.limited;
@@ -102,4 +99,4 @@ replay_promised {b} {log} {sheet} {sheet'} {r} {number} {moves} small s given =
     by e (inr z) = inr (sym e ∙ z)
 
     whole : ((track_said b).zones ≤ length sheet) × (length log % 2 ≡ 0) → Replayable b log (length sheet)
-    whole h = record { accepted = s.accepted; room = h.0; pairs = h.1 }
+    whole h = record { accepted = on.accepted; room = h.0; pairs = h.1 }

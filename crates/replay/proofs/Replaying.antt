@@ -5,7 +5,6 @@ use mathlib.Core.List.{List, [], ◌∷◌}
 use mathlib.Core.Path.{◌≡◌, refl, sym, ap, ◌∙◌}
 use mathlib.Core.Option.{Option, none, some}
 use mathlib.Core.Bool.{Bool, true, false}
-use native.Mathlib.Nat.{add-zero}
 use native.Mathlib.Omega.{arith}
 use lib.ListN.{length, get_or, drop, length-drop}
 use lib.Seq.{drop-cons}
@@ -28,11 +27,6 @@ resumed n a = record { number = a.number; moves = a.moves + n; shown = a.shown }
 pub record Replaying (t : Track) (first : Position) (log : List ℕ) (p : Position) (done : ℕ) : Type 0 where
   pub ready : Ready t p
   pub same : resumed done (replay_for t p (moves_said (drop (2 * done) log))) ≡ replay_for t first (moves_said log)
-
-pub begins : {t : Track} {p : Position} (log : List ℕ) → Ready t p → Replaying t p log p 0
-begins {t} {p} log ready =
-    let a = replay_for t p (moves_said log) in
-    record { ready = ready; same = ap (λ (n : ℕ). record { number = a.number; moves = n; shown = a.shown }) (add-zero a.moves) }
 
 -- the pair after so many moves, and what is left after it
 next_pair : (log : List ℕ) (done : ℕ) → 2 * done + 1 < length log
@@ -84,13 +78,13 @@ module _ {t : Track} {first : Position} {log : List ℕ} {p : Position} {done : 
               ∙ by_move (some q) (done_leaves tried e);
         }
 
-  pub all_done : length log / 2 ≤ done → MovesGiven (replay_for t first (moves_said log)) 0 done p
+  pub all_done : done ≡ length log / 2 → MovesGiven (replay_for t first (moves_said log)) 0 (length log / 2) p
   unfolding replay_for
-  all_done h =
+  all_done e =
       let short : length (drop (2 * done) log) ≤ 1 = omega (arith, length-drop (2 * done) log) in
       let whole = ap (λ (ms : List Move). resumed done (replay_for t p ms)) (sym (no_pair (drop (2 * done) log) short)) ∙ g.same in
       record {
         number_is = ap (λ (a : ReplayAnswer). a.number) whole;
-        moves_is = (let z : done ≡ 0 + done = omega arith in z) ∙ ap (λ (a : ReplayAnswer). a.moves) whole;
+        moves_is = (let z : length log / 2 ≡ 0 + done = omega arith in z) ∙ ap (λ (a : ReplayAnswer). a.moves) whole;
         position_is = ap (λ (a : ReplayAnswer). a.shown) whole;
       }

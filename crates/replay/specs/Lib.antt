@@ -1,2 +1,3 @@
 pub mod Given
+pub mod Refusals
 pub mod Operation

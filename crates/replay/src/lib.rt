@@ -3,32 +3,19 @@
 
 mod moves;
 mod parsed;
+mod refused;
 
 ghost use Rattle.replay.specs.Operation.{ReplayPromise};
+ghost use Rattle.replay.specs.Refusals.{number_of, moves_of};
 
-// What a replay gives: its number, and how many moves were done.
-#[derive(Clone, Copy)]
-pub struct ReplayResult {
-    pub number: u32,
-    pub moves: usize,
-}
+pub use crate::refused::Refused;
 
-// Carries out each pair of the log from the board's position on. The position is shown on the sheet, one word a zone.
-pub fn replay(bytes: &[u8], log: &[u16], sheet: &mut [u32]) -> ReplayResult
-    ensures { ReplayPromise bytes.now log.now sheet.old result.number result.moves sheet.new }
+// Carries out each pair of the log from the board's position on, and gives how many. The position is shown on the sheet, one word a zone.
+pub fn replay(bytes: &[u8], log: &[u16], sheet: &mut [u32]) -> Result<usize, Refused>
+    ensures { ReplayPromise bytes.now log.now sheet.old (number_of result) (moves_of result) sheet.new }
 {
-    let mut ends = [0usize; 192];
-    let mut position = [0u32; 96];
-    let read = board::read_into(bytes, &mut ends, &mut position);
-    let number = read.number;
-    if number != 0 {
-        return ReplayResult {
-            number: number,
-            moves: 0,
-        };
-    }
-    let head = read.head;
-    let zones = head.zones;
-    let ends_count = 2 * zones;
-    parsed::replay(head, &ends[..ends_count], &position[..zones], log, sheet)
+    board::on_board(
+        bytes,
+        &mut |track, position| parsed::replay(track, position, log, sheet),
+    )
 }

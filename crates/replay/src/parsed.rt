@@ -1,52 +1,34 @@
 // The replay on a track and a position.
-ghost use Rattle.std.specs.Prelude.{◌≡◌, ◌≤◌, length};
-ghost use Rattle.model.specs.Lists.{overwritten};
-ghost use Rattle.model.specs.Track.{track_of};
+ghost use Rattle.std.specs.Prelude.{length};
+ghost use Rattle.model.specs.Track.{track_in};
 ghost use Rattle.model.specs.Accepted.{Ready};
 ghost use Rattle.movelog.specs.Replay.{replay_in};
 ghost use Rattle.replay.specs.Given.{ReplayGiven};
+ghost use Rattle.replay.specs.Refusals.{number_of, moves_of};
 
-use crate::{ReplayResult, moves};
-use model::Head;
+use crate::{Refused, moves};
+use model::Track;
 
-// Shows the position on the sheet, from its first word on.
-fn show(position: &[u32], sheet: &mut [u32])
-    requires { length position.now ≤ length sheet.old }
-    ensures { sheet.new ≡ overwritten position.now sheet.old }
-{
-    let mut z = 0;
-    while z < position.len() {
-        sheet[z] = position[z];
-        z += 1;
-    }
-}
-
-// 36 and 37 are tried before the first store; then the moves are made on the sheet itself.
+// Both refusals are tried before the first store; then the moves are made on the sheet itself, from its first word on.
 pub fn replay(
-    head: Head,
-    ends: &[usize],
+    track: &Track,
     position: &[u32],
     log: &[u16],
     sheet: &mut [u32],
-) -> ReplayResult
-    requires { Ready (track_of head ends.now) position.now }
-    ensures { ReplayGiven (replay_in (track_of head ends.now) position.now log.now (length sheet.old)) sheet.old result.number result.moves sheet.new }
+) -> Result<usize, Refused>
+    requires { Ready (track_in track.now) position.now }
+    ensures { ReplayGiven (replay_in (track_in track.now) position.now log.now (length sheet.old)) sheet.old (number_of result) (moves_of result) sheet.new }
 {
-    let zones = head.zones;
+    let zones = track.head.zones;
     let short = sheet.len() < zones;
     if short {
-        return ReplayResult {
-            number: 36,
-            moves: 0,
-        };
+        return Err(Refused::ShortPosition);
     }
     let odd = log.len() % 2 != 0;
     if odd {
-        return ReplayResult {
-            number: 37,
-            moves: 0,
-        };
+        return Err(Refused::OddLog);
     }
-    show(position, sheet);
-    moves::carry_out_all(head, ends, &mut sheet[..zones], log)
+    let shown = &mut sheet[..zones];
+    shown.copy_from_slice(position);
+    moves::carry_out_all(track, shown, log)
 }

@@ -1,11 +1,12 @@
--- At the start of a carrier's search the enterable words are those of the free zones and its own zone the other way: all that it may enter, but for its standing.
+-- At the start of a carrier's search the enterable words are those of the free zones and its own zone the other way: all that it may enter, but for
+-- its standing.
 -- In its own zone a word is its standing or the other way; in another zone it may enter just where nobody stands, since it stands in one zone only.
 use Prim.Native.Nat.{ℕ, ◌+◌, ◌*◌, ◌<◌}
 use mathlib.Core.Path.{◌≡◌, refl, sym, ◌∙◌, ap, ap₂}
-use mathlib.Core.List.{List, [], ◌∷◌}
+use mathlib.Core.List.{List}
 use mathlib.Core.Bool.{Bool, true, false, not, ◌&&◌, ◌||◌, and-true}
 use native.Mathlib.Omega.{arith}
-use lib.ListN.{length, get_or}
+use lib.ListN.{length}
 use lib.Dec.{eqb}
 use borrow.Author.Tests.{eqb-true, eqb-false, eq-eqb, ne_eqb, lt-ltb}
 use Rattle.model.specs.Track.{zone_of, heading_of, rev}
@@ -13,14 +14,6 @@ use Rattle.model.specs.Position.{Position, at, carrier_of, is_free, Once}
 use Rattle.model.proofs.PositionLaws.{held_stands}
 use Rattle.rules.specs.Key.{may_enter}
 use Rattle.queue.specs.WordSets.{in_set, Added, FreeWords}
-
--- a list of three numbers is known by them
-pub three : (l : List ℕ) → length l ≡ 3 → (get_or l 0 0 ∷ get_or l 1 0 ∷ get_or l 2 0 ∷ []) ≡ l
-three [] e = absurd (omega arith)
-three (a ∷ []) e = absurd (omega arith)
-three (a ∷ b ∷ []) e = absurd (omega arith)
-three (a ∷ b ∷ c ∷ []) e = refl
-three (a ∷ b ∷ c ∷ d ∷ l) e = absurd (omega arith)
 
 module _ (p : Position) (once : Once p) (zone : ℕ) (inside : zone < length p) (numbered : carrier_of (at p zone) ≡ 0 → ⊥) where
   abbrev carrier : ℕ

@@ -44,16 +44,16 @@ retire_held c p (z ∷ zs) = go (is_free p z) refl (eqb c (carrier_of (at p z)))
         ap₂ (λ (v : ℕ) (l : List ℕ). carrier_of v ∷ l) kept ih ∙
         ap (λ (b : Bool). cons_if (not b) (carrier_of (at p z)) (keep (λ d. not (eqb c d)) (carriers_in p was))) (sym d)
 
-pub in_order_retire : {p : Position} {order : List ℕ} {count : ℕ} (c : ℕ) → Once p → InOrder p order count → InOrder (retire c p) order count
-in_order_retire {p} {order} {count} c once o = record {
-  zones = record { room = o.zones.room; inside = λ z m. rw length_without (o.zones.inside z m) };
-  carriers = retire_held c p (take count order) ∙ ap (keep (λ d. not (eqb c d))) o.carriers ∙ sym (outs_retire c p once);
+pub in_order_retire : {p : Position} {order : List ℕ} (c : ℕ) → Once p → InOrder p order → InOrder (retire c p) order
+in_order_retire {p} {order} c once o = record {
+  inside = λ z m. rw length_without (o.inside z m);
+  carriers = retire_held c p order ∙ ap (keep (λ d. not (eqb c d))) o.carriers ∙ sym (outs_retire c p once);
 }
 
 -- at first each of the zones in order is held
-pub sorted_in_order : {p : Position} {order : List ℕ} {count : ℕ} → Sorted p order count → InOrder p order count
+pub sorted_in_order : {p : Position} {order : List ℕ} {count : ℕ} → Sorted p order count → InOrder p (take count order)
 sorted_in_order {p} {order} {count} s = record {
-  zones = s.zones;
+  inside = s.zones.inside;
   carriers = ap (carriers_in p) (keep_all (λ z. not (is_free p z)) (take count order) (λ z m. ap not (ne_eqb (at p z) 0 (held z m)))) ∙ s.carriers;
 }
   where

@@ -24,10 +24,6 @@ module _ (t : Track) (p : Position) where
       go zero = refl
       go (suc n) = ap (λ (o : Option Entry). run_on p o (λ e. run_for n t (retire e.carrier p))) e
 
-  pub run_out : length (outs p) ≡ 0 → run t p ≡ record { plan = []; last = p }
-  unfolding run_by run_for_by
-  run_out e = ap (λ (n : ℕ). run_for n t p) e
-
   pub run_step : {e : Entry} → first_to_go t p (outs p) ≡ some e → length (outs (retire e.carrier p)) + 1 ≡ length (outs p)
       → run t p ≡ record { plan = e ∷ (run t (retire e.carrier p)).plan; last = (run t (retire e.carrier p)).last }
   unfolding run_by run_for_by

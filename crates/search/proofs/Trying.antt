@@ -1,20 +1,22 @@
 -- Laws of the search over the carriers: those left to try decide who goes first, and how many words are still to be counted.
 -- A zone that is free is passed; a carrier whose search finds nothing is passed with its words counted; the first whose search finds home goes.
 use Prim.Native.Nat.{ℕ, suc, ◌+◌, ◌*◌, ◌≤◌, ◌<◌}
-use mathlib.Core.Path.{◌≡◌, refl, sym, ◌∙◌, ap, subst}
+use mathlib.Core.Path.{◌≡◌, sym, ◌∙◌, ap}
 use mathlib.Core.List.{List, [], ◌∷◌}
 use mathlib.Core.Bool.{Bool, not}
 use mathlib.Core.Option.{Option}
+use Rattle.std.specs.Prelude.{Option as OptionInCode, Some, None}
 use native.Mathlib.Omega.{arith}
 use native.Mathlib.Nat.{le_trans, mul-le-mul_right}
 use native.Mathlib.Numerals.{add-one}
-use lib.ListN.{length, get_or, take, drop, set, length-set, drop_of_length-le}
-use lib.Seq.{get_or-take, length-take-le, drop-cons}
-use borrow.Author.Tests.{eq-eqb, ne_eqb}
+use lib.ListN.{length, get_or, drop, drop_of_length-le}
+use lib.Seq.{drop-cons}
+use borrow.Author.Tests.{ne_eqb}
 use Rattle.model.specs.Lists.{cons_if, keep}
 use Rattle.model.specs.Track.{Track, heading_of, rev}
 use Rattle.model.specs.Position.{Position, at, carrier_of, is_free, Stands, outs}
 use Rattle.model.proofs.PositionLaws.{held_stands, mem_outs, outs_most}
+use Rattle.model.proofs.PlaceLaws.{get_or_mem}
 use Rattle.rules.specs.Search.{least_from}
 use Rattle.rules.specs.Key.{nexts, leaves_home, least_route, goes_else, first_to_go, first_to_go_by}
 use Rattle.rules.specs.SearchCount.{unless_goes, sum_of_lengths, reached, tried, tried_by}
@@ -22,40 +24,26 @@ use Rattle.order.proofs.LeastRoute.{least_at}
 use Rattle.searchcount.proofs.Reaching.{reached_at}
 use Rattle.searchcount.proofs.Most.{tried_most}
 use Rattle.carriers.specs.Order.{carriers_in}
-use Rattle.carriers.proofs.Sorting.{zone_inside}
 use Rattle.queue.specs.WordSets.{Added}
+use Rattle.queue.specs.Queue.{Started}
 use Rattle.queue.specs.Offers.{Offering}
 use Rattle.queue.proofs.OfferLaws.{offered_room}
-use Rattle.queue.proofs.QueueArrays.{queued_most, queued_readable}
+use Rattle.queue.proofs.QueueLists.{queued_most, queued_readable}
 use Rattle.search.specs.Leaving.{Seeking, Sought}
-use Rattle.search.specs.declared.Goes.TheVariants.{From, Nobody}
-use Rattle.search.proofs.Entering.{three, first_enterable}
+use Rattle.search.proofs.Entering.{first_enterable}
 use Rattle.search.proofs.Looks.{Looking, looking_starts, looking_count, looking_none, looking_arrived, looking_goal, looking_more, looking_word}
 
 -- the carriers left to try: those of the held zones in order, from place k on
-abbrev left_from : Position → List ℕ → ℕ → ℕ → List ℕ
-left_from p order count k = carriers_in p (keep (λ z. not (is_free p z)) (drop k (take count order)))
+abbrev left_from : Position → List ℕ → ℕ → List ℕ
+left_from p order k = carriers_in p (keep (λ z. not (is_free p z)) (drop k order))
 
 -- the carriers, with the first k zones tried or free, and so many words reached in those tries
-pub record Tried (t : Track) (p order : List ℕ) (count : ℕ) (words₀ froms₀ words froms : List ℕ) (searched k : ℕ) : Type 0 where
-  pub small : k ≤ count
-  pub same_words : length words ≡ length words₀
-  pub same_froms : length froms ≡ length froms₀
-  pub goer : first_to_go t p (left_from p order count k) ≡ first_to_go t p (outs p)
-  pub counted : searched + sum_of_lengths (tried t p (left_from p order count k)) ≡ sum_of_lengths (tried t p (outs p))
+pub record Tried (t : Track) (p order : List ℕ) (searched k : ℕ) : Type 0 where
+  pub goer : first_to_go t p (left_from p order k) ≡ first_to_go t p (outs p)
+  pub counted : searched + sum_of_lengths (tried t p (left_from p order k)) ≡ sum_of_lengths (tried t p (outs p))
 
-module _ {t : Track} {p follows free order : List ℕ} {count : ℕ} {words₀ froms₀ : List ℕ} (s : Seeking t p follows free order count words₀ froms₀) where
-  pub tried_none : Tried t p order count words₀ froms₀ words₀ froms₀ 0 0
-  tried_none = record {
-    small = omega arith;
-    same_words = refl;
-    same_froms = refl;
-    goer = ap (first_to_go t p) s.in_order.carriers;
-    counted = omega (arith, ap (λ (l : List ℕ). sum_of_lengths (tried t p l)) s.in_order.carriers);
-  }
-
-  pub nobody_goes : {words froms : List ℕ} {searched k : ℕ} → Tried t p order count words₀ froms₀ words froms searched k → k ≡ count
-      → Sought t p words froms (record { goes = Nobody; searched = searched })
+module _ {t : Track} {p follows free order : List ℕ} (s : Seeking t p follows free order) where
+  pub nobody_goes : {words froms : List ℕ} {searched k : ℕ} → Tried t p order searched k → length order ≤ k → Sought t p words froms (record { departure = None; searched = searched })
   unfolding first_to_go_by tried_by
   nobody_goes {words} {froms} {searched} {k} d e = record {
     entry = ap (first_to_go t p) (sym none_left) ∙ d.goer;
@@ -63,57 +51,34 @@ module _ {t : Track} {p follows free order : List ℕ} {count : ℕ} {words₀ f
     searched_is = omega (arith, d.counted, ap (λ (l : List ℕ). sum_of_lengths (tried t p l)) none_left);
   }
     where
-      none_left : left_from p order count k ≡ []
-      none_left =
-          ap (λ (l : List ℕ). carriers_in p (keep (λ z. not (is_free p z)) l))
-          (drop_of_length-le (take count order) {i = k} (rw (length-take-le count order s.in_order.zones.room) (omega arith)))
+      none_left : left_from p order k ≡ []
+      none_left = ap (λ (l : List ℕ). carriers_in p (keep (λ z. not (is_free p z)) l)) (drop_of_length-le order {i = k} e)
 
 -- a zone is left to try
-pub record Next (t : Track) (p follows free order : List ℕ) (count : ℕ) (words₀ froms₀ words froms : List ℕ) (searched k : ℕ) : Type 0 where
-  pub seeking : Seeking t p follows free order count words₀ froms₀
-  pub tried : Tried t p order count words₀ froms₀ words froms searched k
-  pub another : k ≡ count → ⊥
+pub record Next (t : Track) (p follows free order : List ℕ) (searched k : ℕ) : Type 0 where
+  pub seeking : Seeking t p follows free order
+  pub tried : Tried t p order searched k
+  pub another : k < length order
 
-module _ {t : Track} {p follows free order : List ℕ} {count : ℕ} {words₀ froms₀ words froms : List ℕ} {searched k : ℕ}
-    (x : Next t p follows free order count words₀ froms₀ words froms searched k) where
-  pub next_few : k < count
-  next_few = omega (arith, x.tried.small, x.another)
-
-  pub next_in_order : k < length order
-  next_in_order = omega (arith, next_few, x.seeking.in_order.zones.room)
-
+module _ {t : Track} {p follows free order : List ℕ} {searched k : ℕ} (x : Next t p follows free order searched k) where
   abbrev next_zone : ℕ
   next_zone = get_or order k 0
 
   pub next_inside : next_zone < length p
-  next_inside = zone_inside x.seeking.in_order.zones k next_few
+  next_inside = x.seeking.in_order.inside _ (get_or_mem 0 order k x.another)
 
   -- the zone, and those after it
-  left_here : {b : Bool} → is_free p next_zone ≡ b → left_from p order count k ≡ carriers_in p (cons_if (not b) next_zone (keep (λ z. not (is_free p z)) (drop (suc k) (take count order))))
+  left_here : {b : Bool} → is_free p next_zone ≡ b → left_from p order k ≡ carriers_in p (cons_if (not b) next_zone (keep (λ z. not (is_free p z)) (drop (suc k) order)))
   left_here e =
-      ap (λ (l : List ℕ). carriers_in p (keep (λ z. not (is_free p z)) l))
-      (drop-cons (take count order) k 0 (rw (length-take-le count order x.seeking.in_order.zones.room) next_few) ∙
-      ap (λ (z : ℕ). z ∷ drop (suc k) (take count order)) (get_or-take count order k 0 next_few)) ∙
-      ap (λ (b : Bool). carriers_in p (cons_if (not b) next_zone (keep (λ z. not (is_free p z)) (drop (suc k) (take count order))))) e
-
-  pub next_free : at p next_zone ≡ 0 → Tried t p order count words₀ froms₀ words froms searched (k + 1)
-  next_free e =
-      let same : left_from p order count k ≡ left_from p order count (suc k) = left_here (eq-eqb (at p next_zone) 0 e) in
-      rw add-one record {
-        small = next_few;
-        same_words = x.tried.same_words;
-        same_froms = x.tried.same_froms;
-        goer = ap (first_to_go t p) (sym same) ∙ x.tried.goer;
-        counted = ap (λ (l : List ℕ). searched + sum_of_lengths (tried t p l)) (sym same) ∙ x.tried.counted;
-      }
+      ap (λ (l : List ℕ). carriers_in p (keep (λ z. not (is_free p z)) l)) (drop-cons order k 0 x.another) ∙
+      ap (λ (b : Bool). carriers_in p (cons_if (not b) next_zone (keep (λ z. not (is_free p z)) (drop (suc k) order)))) e
 
 -- and its zone is held
-pub record HeldNext (t : Track) (p follows free order : List ℕ) (count : ℕ) (words₀ froms₀ words froms : List ℕ) (searched k : ℕ) : Type 0 where
-  pub next : Next t p follows free order count words₀ froms₀ words froms searched k
+pub record HeldNext (t : Track) (p follows free order : List ℕ) (searched k : ℕ) : Type 0 where
+  pub next : Next t p follows free order searched k
   pub held : at p (get_or order k 0) ≡ 0 → ⊥
 
-module _ {t : Track} {p follows free order : List ℕ} {count : ℕ} {words₀ froms₀ words froms : List ℕ} {searched k : ℕ}
-    (x : HeldNext t p follows free order count words₀ froms₀ words froms searched k) where
+module _ {t : Track} {p follows free order : List ℕ} {searched k : ℕ} (x : HeldNext t p follows free order searched k) where
   abbrev zone : ℕ
   zone = get_or order k 0
 
@@ -125,7 +90,7 @@ module _ {t : Track} {p follows free order : List ℕ} {count : ℕ} {words₀ f
 
   -- those held among the zones after it
   abbrev others : List ℕ
-  others = left_from p order count (suc k)
+  others = left_from p order (suc k)
 
   turn_numbered : carrier ≡ 0 → ⊥
   turn_numbered e = omega (arith, x.held, x.next.seeking.laid.free_heading zone)
@@ -133,13 +98,7 @@ module _ {t : Track} {p follows free order : List ℕ} {count : ℕ} {words₀ f
   pub turn_standing : standing < 2 * t.zones
   turn_standing = omega (arith, next_inside x.next, x.next.seeking.tables.each)
 
-  pub turn_in_words : 0 < length words
-  turn_in_words = omega (arith, turn_standing, x.next.seeking.room_words, x.next.tried.same_words)
-
-  pub turn_in_froms : 0 < length froms
-  turn_in_froms = omega (arith, turn_standing, x.next.seeking.room_froms, x.next.tried.same_froms)
-
-  left_held : left_from p order count k ≡ carrier ∷ others
+  left_held : left_from p order k ≡ carrier ∷ others
   left_held = left_here x.next (ne_eqb (at p zone) 0 x.held)
 
   goer_held : goes_else carrier (least_route t p carrier) (first_to_go t p others) ≡ first_to_go t p (outs p)
@@ -166,72 +125,55 @@ module _ {t : Track} {p follows free order : List ℕ} {count : ℕ} {words₀ f
       few_out : length (outs p) ≤ 96
       few_out = omega (arith, outs_most p, x.next.seeking.tables.each, x.next.seeking.tables.few)
 
-  pub turn_blocks : length free ≡ 3
-  turn_blocks = x.next.seeking.blocks
+  pub turn_looks : {words froms enterable : List ℕ} {n w : ℕ} → w ≡ rev standing → Added w free enterable → length enterable ≡ 3 → Started standing words froms n
+      → Looking t p carrier standing words froms enterable n 0 None
+  turn_looks e a b s =
+      looking_starts t p carrier standing (omega (arith, x.next.seeking.tables.few)) s b turn_standing
+      (λ v h. first_enterable p x.next.seeking.laid.once zone (next_inside x.next) turn_numbered x.next.seeking.free_words e a v (omega (arith, x.next.seeking.tables.each)))
 
-  pub turn_looks : {enterable : List ℕ} {w : ℕ} → w ≡ rev standing → Added w (get_or free 0 0 ∷ get_or free 1 0 ∷ get_or free 2 0 ∷ []) enterable → length enterable ≡ 3
-      → Looking t p carrier standing (set words 0 standing) (set froms 0 0) (set words 0 standing) (set froms 0 0) enterable 1 0 192
-  turn_looks {enterable} {w} e a b =
-      let added : Added w free enterable = subst (λ (l : List ℕ). Added w l enterable) (three free turn_blocks) a in
-      looking_starts t p carrier standing words froms enterable
-      (omega (arith, x.next.seeking.room_words, x.next.tried.same_words)) (omega (arith, x.next.seeking.room_froms, x.next.tried.same_froms)) b turn_standing
-      (λ v h. first_enterable p x.next.seeking.laid.once zone (next_inside x.next) turn_numbered x.next.seeking.free_words e added v (omega (arith, x.next.seeking.tables.each)))
-
-  module _ {words' froms' enterable : List ℕ} {n i arrival : ℕ} (l : Looking t p carrier standing (set words 0 standing) (set froms 0 0) words' froms' enterable n i arrival) where
-    pub turn_words : length words' ≡ length words₀
-    turn_words = l.same_words ∙ length-set words 0 standing ∙ x.next.tried.same_words
-
-    pub turn_froms : length froms' ≡ length froms₀
-    turn_froms = l.same_froms ∙ length-set froms 0 0 ∙ x.next.tried.same_froms
-
+  module _ {words froms enterable : List ℕ} {n i : ℕ} {arrival : OptionInCode ℕ} (l : Looking t p carrier standing words froms enterable n i arrival) where
     pub turn_found : n ≤ 192
     turn_found = omega (arith, queued_most l.queued, x.next.seeking.tables.few)
 
-    -- at the queue's end
-    module _ (end : i ≡ n) where
-      turn_count : n ≡ length (reached t p carrier)
-      turn_count = looking_count l turn_standing end ∙ sym (ap length (reached_at t x.next.seeking.laid.once stands))
+    turn_count : i ≡ n → n ≡ length (reached t p carrier)
+    turn_count end = looking_count l turn_standing end ∙ sym (ap length (reached_at t x.next.seeking.laid.once stands))
 
-      pub turn_few : searched + n ≤ 18432
-      turn_few = omega (arith, counted_held, turn_count, round_few)
-
-      module _ {searched' : ℕ} (added : searched' ≡ searched + n) where
-        pub turn_past : arrival ≡ 192 → Tried t p order count words₀ froms₀ words' froms' searched' (k + 1)
-        turn_past e =
-            let none = decides ∙ looking_none l turn_standing end (omega (arith, x.next.seeking.tables.few)) e in
-            rw add-one record {
-              small = next_few x.next;
-              same_words = turn_words;
-              same_froms = turn_froms;
-              goer = ap (λ (o : Option (List ℕ)). goes_else carrier o (first_to_go t p others)) (sym none) ∙ goer_held;
-              counted = omega (arith, counted_held, turn_count, ap (λ (o : Option (List ℕ)). sum_of_lengths (unless_goes o (tried t p others))) none);
-            }
-
-        pub turn_goes : (arrival ≡ 192 → ⊥) → Sought t p words' froms' (record { goes = From zone arrival; searched = searched' })
-        turn_goes e =
-            let least = decides ∙ looking_goal l turn_standing end e in
-            record {
-              entry = ap (λ (o : Option (List ℕ)). goes_else carrier o (first_to_go t p others)) (sym least) ∙ goer_held;
-              given = record {
-                inside = next_inside x.next;
-                numbered = turn_numbered;
-                few = omega (arith, looking_arrived l turn_standing end e, queued_most l.queued);
-                readable = queued_readable l.queued (omega (arith, x.next.seeking.tables.few)) arrival (looking_arrived l turn_standing end e);
-              };
-              searched_is = omega (arith, counted_held, turn_count, ap (λ (o : Option (List ℕ)). sum_of_lengths (unless_goes o (tried t p others))) least);
-            }
+    pub turn_few : i ≡ n → searched + n ≤ 18432
+    turn_few end = omega (arith, counted_held, turn_count end, round_few)
 
     -- a place is left to look at
     module _ (left : i ≡ n → ⊥) where
-      pub turn_inside : i < length words'
+      pub turn_inside : i < length words
       turn_inside = omega (arith, looking_more l left, queued_most l.queued, l.queued.room_words)
 
-      pub turn_offers : Offering follows (get_or words' i 0) n words' froms' enterable
+      pub turn_offers : Offering follows (get_or words i 0) n words froms enterable
       turn_offers = record {
         row = omega (arith, looking_word l left, x.next.seeking.tables.few, x.next.seeking.tables.rows);
         blocks = l.queued.blocks;
         room = offered_room x.next.seeking.tables (looking_word l left) l.queued;
       }
 
-      pub turn_leaves : rev (get_or words' i 0) < length t.ends
-      turn_leaves = omega (arith, looking_word l left, x.next.seeking.tables.both)
+  -- at the queue's end
+  module _ {words froms enterable : List ℕ} {n i searched' : ℕ} (added : searched' ≡ searched + n) (end : i ≡ n) where
+    pub turn_past : Looking t p carrier standing words froms enterable n i None → Tried t p order searched' (k + 1)
+    turn_past l =
+        let none = decides ∙ looking_none l end in
+        rw add-one record {
+          goer = ap (λ (o : Option (List ℕ)). goes_else carrier o (first_to_go t p others)) (sym none) ∙ goer_held;
+          counted = omega (arith, counted_held, turn_count l end, ap (λ (o : Option (List ℕ)). sum_of_lengths (unless_goes o (tried t p others))) none);
+        }
+
+    pub turn_goes : {place : ℕ} → Looking t p carrier standing words froms enterable n i (Some place)
+        → Sought t p words froms (record { departure = Some (record { zone = zone; place = place }); searched = searched' })
+    turn_goes {place} l =
+        let least = decides ∙ looking_goal l turn_standing end in
+        record {
+          entry = ap (λ (o : Option (List ℕ)). goes_else carrier o (first_to_go t p others)) (sym least) ∙ goer_held;
+          given = record {
+            inside = next_inside x.next;
+            numbered = turn_numbered;
+            few = omega (arith, looking_arrived l, queued_most l.queued);
+            readable = queued_readable l.queued (omega (arith, x.next.seeking.tables.few)) place (looking_arrived l);
+          };
+          searched_is = omega (arith, counted_held, turn_count l end, ap (λ (o : Option (List ℕ)). sum_of_lengths (unless_goes o (tried t p others))) least);
+        }

@@ -16,9 +16,8 @@ pub record Sendable (t : Track) (p plan : List ℕ) : Type 0 where
   pub room : length (outs p) * (2 + 2 * t.zones) ≤ length plan
 
 -- the same with the table and the set of the free zones' words made and the zones in order: what the rounds ask
-pub record Prepared (t : Track) (p follows free order : List ℕ) (count : ℕ) (words froms plan : List ℕ) : Type 0 where
-  pub seeking : Seeking t p follows free order count words froms
-  pub counted : count ≡ length (outs p)
+pub record Prepared (t : Track) (p follows free order plan : List ℕ) : Type 0 where
+  pub seeking : Seeking t p follows free order
   pub carriers_small : (z : ℕ) → at p z < 131072
   pub room : length (outs p) * (2 + 2 * t.zones) ≤ length plan
 

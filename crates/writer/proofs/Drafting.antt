@@ -7,21 +7,20 @@ use native.Mathlib.Numerals.{add-one}
 use mathlib.Core.List.{List, [], ◌∷◌, ◌++◌, map, flatten, map-append, append_assoc, append-nil}
 use mathlib.Core.Path.{◌≡◌, refl, sym, ◌∙◌, ap, ap₂}
 use mathlib.Core.Bool.{Bool, true, false, cond}
-use lib.ListN.{length, set, drop}
+use lib.ListN.{length, drop}
 use lib.Seq.{sets, length-sets}
 use Rattle.model.specs.declared.Head.{Head}
 use Rattle.model.specs.Layout.{stride, length_of, entry_from, high_byte, low_byte}
 use Rattle.model.specs.Lists.{numbers_below, overwritten, overwritten_at}
 use Rattle.model.specs.Track.{Track, track_of, heading_of, start}
 use Rattle.model.specs.Position.{Position, at, carrier_of}
-use Rattle.model.proofs.LayoutLaws.{five, four, stride_most}
+use Rattle.model.proofs.LayoutLaws.{stride_most}
 use Rattle.model.proofs.ListLaws.{length_below, below_suc}
 use Rattle.model.proofs.StoreLaws.{sets_append, overwritten_sets}
 use Rattle.faircopy.specs.BoardBytes.{head_bytes, entry_byte, entry_bytes, board_bytes}
 use Rattle.faircopy.proofs.BytesSaid.{length_entry}
 use Rattle.faircopy.proofs.Entries.{length_entries}
-use Rattle.writer.specs.Drafting.{all_entries, Draftable}
-use Rattle.writer.proofs.Stores.{four_stored, five_stored}
+use Rattle.writer.specs.Drafting.{all_entries}
 
 -- so many zones have few bytes
 pub few_bytes : (v : Bool) {n : ℕ} → n ≤ 96 → stride v * n ≤ 480
@@ -36,40 +35,16 @@ head_drafted head v {from} {version} draft starts said =
     let length-is : from - 2 ≡ length_of v head.zones = omega arith in
     λ i. (high_byte (length-is i) ∷ low_byte (length-is i) ∷ said i ∷ head.points ∷ head.home ∷ head.zones ∷ []) ++ drop 6 draft
 
--- an entry
+-- an entry, by the version
 
-module _ {t : Track} {p : Position} (on : Draftable t p) where
-  -- an end is a byte
-  pub end_small : (w : ℕ) → w < 2 * t.zones → start t w < 256
-  end_small w h = omega (arith, on.inside w h, on.points_most)
-
--- a place of an entry is inside what is lent
-pub place_in : (draft : List ℕ) (v : Bool) (z : ℕ) {from : ℕ} (k : ℕ) → from ≡ entry_from v z → entry_from v z + stride v ≤ length draft → k < stride v → from + k < length draft
-place_in draft v z k starts room small = omega arith
-
-module _ (t : Track) (p : Position) (z : ℕ) where
-  wide_bytes : entry_bytes true t p z ≡ start t (2 * z) ∷ start t (2 * z + 1) ∷ high_byte (carrier_of (at p z)) ∷ low_byte (carrier_of (at p z)) ∷ heading_of (at p z) ∷ []
+module _ (t : Track) (p : Position) (z : ℕ) {v : Bool} where
+  pub wide_bytes : v ≡ true → start t (2 * z) ∷ start t (2 * z + 1) ∷ high_byte (carrier_of (at p z)) ∷ low_byte (carrier_of (at p z)) ∷ heading_of (at p z) ∷ [] ≡ entry_bytes v t p z
   unfolding entry_bytes entry_byte stride
-  wide_bytes = refl
+  wide_bytes e = rw e
 
-  narrow_bytes : entry_bytes false t p z ≡ start t (2 * z) ∷ start t (2 * z + 1) ∷ low_byte (carrier_of (at p z)) ∷ heading_of (at p z) ∷ []
+  pub narrow_bytes : v ≡ false → start t (2 * z) ∷ start t (2 * z + 1) ∷ low_byte (carrier_of (at p z)) ∷ heading_of (at p z) ∷ [] ≡ entry_bytes v t p z
   unfolding entry_bytes entry_byte stride
-  narrow_bytes = refl
-
-  module _ (draft : List ℕ) {v : Bool} {from : ℕ} (starts : from ≡ entry_from v z) (room : entry_from v z + stride v ≤ length draft) where
-    pub wide_drafted : v ≡ true
-        → set (set (set (set (set draft from (start t (2 * z))) (from + 1) (start t (2 * z + 1))) (from + 2) (high_byte (carrier_of (at p z)))) (from + 3) (low_byte (carrier_of (at p z)))) (from + 4) (heading_of (at p z))
-        ≡ overwritten_at (entry_from v z) (entry_bytes v t p z) draft
-    wide_drafted e =
-        five_stored draft from (start t (2 * z)) (start t (2 * z + 1)) (high_byte (carrier_of (at p z))) (low_byte (carrier_of (at p z))) (heading_of (at p z)) (omega (arith, five e)) ∙
-        ap₂ (λ (i : ℕ) (l : List ℕ). overwritten_at i l draft) starts (sym wide_bytes ∙ ap (λ (w : Bool). entry_bytes w t p z) (sym e))
-
-    pub narrow_drafted : v ≡ false
-        → set (set (set (set draft from (start t (2 * z))) (from + 1) (start t (2 * z + 1))) (from + 2) (low_byte (carrier_of (at p z)))) (from + 3) (heading_of (at p z))
-        ≡ overwritten_at (entry_from v z) (entry_bytes v t p z) draft
-    narrow_drafted e =
-        four_stored draft from (start t (2 * z)) (start t (2 * z + 1)) (low_byte (carrier_of (at p z))) (heading_of (at p z)) (omega (arith, four e)) ∙
-        ap₂ (λ (i : ℕ) (l : List ℕ). overwritten_at i l draft) starts (sym narrow_bytes ∙ ap (λ (w : Bool). entry_bytes w t p z) (sym e))
+  narrow_bytes e = rw e
 
 -- the entries in turn
 
@@ -91,38 +66,32 @@ module _ (v : Bool) (t : Track) (p : Position) where
       flatten_last (map (entry_bytes v t p) (numbers_below n)) (entry_bytes v t p n)
 
   -- what holds while the entries of the first z zones are drafted
-  pub record Drafting (draft₀ draft : List ℕ) (z : ℕ) : Type 0 where
-    pub within : z ≤ t.zones
-    pub stored : draft ≡ sets draft₀ 6 (all_entries v t p z)
+  pub record Drafting (lent draft : List ℕ) (z : ℕ) : Type 0 where
+    pub stored : draft ≡ sets lent 6 (all_entries v t p z)
 
   pub drafting_starts : (draft : List ℕ) → Drafting draft draft 0
   unfolding flatten
-  drafting_starts draft = record { within = omega arith; stored = refl }
+  drafting_starts draft = record { stored = refl }
 
-  module _ {draft₀ draft : List ℕ} {z : ℕ} (room : entry_from v t.zones ≤ length draft₀) (g : Drafting draft₀ draft z) where
-    pub draft_long : length draft ≡ length draft₀
-    draft_long = ap length g.stored ∙ length-sets draft₀ 6 (all_entries v t p z)
-
+  module _ {lent draft : List ℕ} {z : ℕ} (room : entry_from v t.zones ≤ length lent) (g : Drafting lent draft z) where
     -- the next entry fits
-    pub entry_room : z < t.zones → entry_from v z + stride v ≤ length draft
-    entry_room h = omega (arith, draft_long, mul-suc (stride v) z, mul-le-mul_left {m = suc z} {n = t.zones} (stride v) h)
+    entry_room : z < t.zones → entry_from v z + stride v ≤ length draft
+    entry_room h =
+        omega (arith, ap length g.stored, length-sets lent 6 (all_entries v t p z), mul-suc (stride v) z, mul-le-mul_left {m = suc z} {n = t.zones} (stride v) h)
 
-    pub drafting_on : z < t.zones → {draft' : List ℕ} → draft' ≡ overwritten_at (entry_from v z) (entry_bytes v t p z) draft → Drafting draft₀ draft' (z + 1)
+    pub drafting_on : z < t.zones → {draft' : List ℕ} → draft' ≡ overwritten_at (entry_from v z) (entry_bytes v t p z) draft → Drafting lent draft' (z + 1)
     drafting_on h {draft'} e = record {
-      within = omega arith;
       stored =
           e ∙
           sym (overwritten_sets draft (entry_from v z) (entry_bytes v t p z) (let l = length_entry v t p z in let r = entry_room h in omega arith)) ∙
           ap₂ (λ (l : List ℕ) (i : ℕ). sets l i (entry_bytes v t p z)) g.stored (let l = length_entries_of z in let q : entry_from v z ≡ 6 + length (all_entries v t p z) = omega arith in q) ∙
-          sym (sets_append draft₀ 6 (all_entries v t p z) (entry_bytes v t p z)) ∙
-          ap (sets draft₀ 6) (sym (entries_next z));
+          sym (sets_append lent 6 (all_entries v t p z) (entry_bytes v t p z)) ∙
+          ap (sets lent 6) (sym (entries_next z));
     }
 
-    pub drafting_ends : t.zones ≤ z → draft ≡ overwritten_at 6 (all_entries v t p t.zones) draft₀
-    drafting_ends h =
-        g.stored ∙
-        ap (λ (n : ℕ). sets draft₀ 6 (all_entries v t p n)) (let w = g.within in let q : z ≡ t.zones = omega arith in q) ∙
-        overwritten_sets draft₀ 6 (all_entries v t p t.zones) (let l = length_entries_of t.zones in omega arith)
+    pub drafting_ends : z ≡ t.zones → draft ≡ overwritten_at 6 (all_entries v t p t.zones) lent
+    drafting_ends e =
+        g.stored ∙ ap (λ (n : ℕ). sets lent 6 (all_entries v t p n)) e ∙ overwritten_sets lent 6 (all_entries v t p t.zones) (let l = length_entries_of t.zones in omega arith)
 
 -- the head, and then the entries
 

@@ -1,5 +1,3 @@
-pub mod Stores
-pub mod HighWords
 pub mod Drafting
 pub mod Writing
 pub mod WritePromised

@@ -8,13 +8,12 @@ use lib.ListN.{length, take, drop}
 use lib.Seq.{take_at, drop_at}
 use Rattle.model.specs.Lists.{overwritten}
 use Rattle.model.specs.Track.{Track}
+use Rattle.model.specs.Position.{Position}
 use Rattle.model.specs.Reading.{Bytes, refusal}
 use Rattle.faircopy.specs.Write.{WriteAnswer, write_in, write_of}
 use Rattle.faircopy.specs.WriteRight.{NumbersRight, WrittenRight}
 use Rattle.faircopy.proofs.WriteMet.{of_refused, of_read, numbers_right, nothing_written, copy_right}
-use Rattle.board.specs.declared.Board.{Board}
-use Rattle.board.specs.Given.{board_of}
-use Rattle.board.proofs.ReadBoard.{track_read, Said, number_read}
+use Rattle.board.specs.OnBoard.{OnBoard}
 use Rattle.writer.specs.Given.{BoardTrack, WriteGiven}
 use Rattle.writer.specs.Operation.{WritePromise}
 
@@ -39,18 +38,17 @@ module _ (b : List ℕ) (bytes : Bytes b) (sheet copy : List ℕ) {number count 
   }
 
 -- a refused board
-pub write_turned_back : (b : List ℕ) → Bytes b → (sheet copy : List ℕ) {r : Board} → r ≡ board_of b → (r.number ≡ 0 → ⊥) → WritePromise b sheet copy r.number 0 copy
-write_turned_back b bytes sheet copy {r} e n =
-    let m : r.number ≡ refusal b = number_read b e in
-    let a = of_refused b sheet (length copy) (λ z. n (m ∙ z)) in
-    write_promised b bytes sheet copy (record { number_is = rw a m; count_is = rw a; copy_is = rw a })
+pub write_turned_back : {b sheet copy copy' : List ℕ} {number count : ℕ} → Bytes b → (refusal b ≡ 0 → ⊥) → number ≡ refusal b → count ≡ 0 → copy' ≡ copy → WritePromise b sheet copy number count copy'
+write_turned_back {b} {sheet} {copy} bytes n m none same =
+    let a = of_refused b sheet (length copy) n in
+    write_promised b bytes sheet copy (record { number_is = rw a m; count_is = rw a none; copy_is = rw a same })
 
 -- an accepted board
-pub board_track : {b : List ℕ} {r : Board} → Said b r → BoardTrack (track_read r)
-board_track {b} s = record { board = b; accepted = s.accepted; says = sym s.track }
+module _ {b : List ℕ} {t : Track} {p : Position} (on : OnBoard b t p) where
+  pub board_track : BoardTrack t
+  board_track = record { board = b; accepted = on.accepted; says = sym on.track }
 
-module _ {b : List ℕ} (bytes : Bytes b) {r : Board} (s : Said b r) where
-  pub write_read : (sheet copy : List ℕ) {number count : ℕ} {copy' : List ℕ} → WriteGiven (write_in (track_read r) sheet (length copy)) copy number count copy' → WritePromise b sheet copy number count copy'
-  write_read sheet copy {number} {count} {copy'} given =
+  pub write_read : Bytes b → (sheet copy : List ℕ) {number count : ℕ} {copy' : List ℕ} → WriteGiven (write_in t sheet (length copy)) copy number count copy' → WritePromise b sheet copy number count copy'
+  write_read bytes sheet copy {number} {count} {copy'} given =
       write_promised b bytes sheet copy
-      (subst (λ (a : WriteAnswer). WriteGiven a copy number count copy') (ap (λ (t : Track). write_in t sheet (length copy)) s.track ∙ sym (of_read b sheet (length copy) s.accepted)) given)
+      (subst (λ (a : WriteAnswer). WriteGiven a copy number count copy') (ap (λ (t : Track). write_in t sheet (length copy)) on.track ∙ sym (of_read b sheet (length copy) on.accepted)) given)

@@ -28,7 +28,6 @@ pub record Draftable (t : Track) (p : Position) : Type 0 where
 -- and what the test and the store of a copy ask: the track of an accepted board, the version that the carriers need, and room
 pub record Storable (t : Track) (p : Position) (wide : Bool) (copy : List ℕ) : Type 0 where
   pub track : BoardTrack t
-  pub draftable : Draftable t p
   pub version : wide ≡ needs_two p
   pub room : length (copy_bytes t p) ≤ length copy
 

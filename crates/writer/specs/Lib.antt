@@ -1,4 +1,5 @@
 pub mod Given
+pub mod Refusals
 pub mod Drafting
 pub mod Operation
 pub mod AfterReplay

@@ -2,21 +2,27 @@
 ghost use Rattle.std.specs.Prelude.{◌+◌, ◌≤◌, ◌<◌, ◌≡◌, cond, length};
 ghost use Rattle.model.specs.Layout.{stride, entry_from};
 ghost use Rattle.model.specs.Lists.{overwritten, overwritten_at};
-ghost use Rattle.model.specs.Track.{track_of};
+ghost use Rattle.model.specs.Track.{track_in};
 ghost use Rattle.faircopy.specs.BoardBytes.{head_bytes, entry_bytes, board_bytes};
 ghost use Rattle.writer.specs.Drafting.{SmallHead, Draftable, all_entries};
 
 use crate::overwrite;
 use board::input::zone_from;
-use model::Head;
+use model::{Head, Track};
+
+// What a copy says: a track, a position sheet, and whether a carrier has two bytes. Every number of it fits its place.
+#[derive(Clone, Copy)]
+pub struct Contents<'a> {
+    pub track: Track<'a>,
+    pub sheet: &'a [u32],
+    pub wide: bool,
+    pub ghost draftable: { Draftable (track_in track) sheet.now },
+}
 
 fn version(wide: bool) -> u8
     ensures { result ≡ cond wide 2 1 }
 {
-    if wide {
-        return 2;
-    }
-    1
+    if wide { 2 } else { 1 }
 }
 
 // The head: L, the version, points, the home point, zones.
@@ -37,46 +43,40 @@ fn first_bytes(head: Head, wide: bool, draft: &mut [u8])
 }
 
 // The entry of one zone. In version 1 a carrier has its low byte alone.
-fn entry(head: Head, ends: &[usize], sheet: &[u32], wide: bool, z: usize, draft: &mut [u8])
-    requires { Draftable (track_of head ends.now) sheet.now × ((z < head.zones) × (entry_from wide z + stride wide ≤ length draft.old)) }
-    ensures { draft.new ≡ overwritten_at (entry_from wide z) (entry_bytes wide (track_of head ends.now) sheet.now z) draft.old }
+#[tactic(auto, using(model::proofs::LayoutLaws::five, model::proofs::LayoutLaws::four))]
+fn entry(contents: &Contents, z: usize, draft: &mut [u8])
+    requires { (z < contents.now.track.head.zones) × (entry_from contents.now.wide z + stride contents.now.wide ≤ length draft.old) }
+    ensures { draft.new ≡ overwritten_at (entry_from contents.now.wide z) (entry_bytes contents.now.wide (track_in contents.now.track) contents.now.sheet.now z) draft.old }
 {
-    let from = zone_from(wide, z);
-    let a = ends[2 * z] as u8;
-    let b = ends[2 * z + 1] as u8;
-    let word = sheet[z];
+    let from = zone_from(contents.wide, z);
+    let a = contents.track.ends[2 * z] as u8;
+    let b = contents.track.ends[2 * z + 1] as u8;
+    let word = contents.sheet[z];
     let carrier = word / 2;
     let high = (carrier / 256) as u8;
     let low = (carrier % 256) as u8;
     let heading = (word % 2) as u8;
-    draft[from] = a;
-    draft[from + 1] = b;
-    if wide {
-        draft[from + 2] = high;
-        draft[from + 3] = low;
-        draft[from + 4] = heading;
-        return;
+    if contents.wide {
+        overwrite::from_place(from, &[a, b, high, low, heading], draft);
+    } else {
+        overwrite::from_place(from, &[a, b, low, heading], draft);
     }
-    draft[from + 2] = low;
-    draft[from + 3] = heading;
 }
 
 // The entries of all zones.
-fn entries(head: Head, ends: &[usize], sheet: &[u32], wide: bool, draft: &mut [u8])
-    requires { Draftable (track_of head ends.now) sheet.now × (entry_from wide head.zones ≤ length draft.old) }
-    ensures { draft.new ≡ overwritten_at 6 (all_entries wide (track_of head ends.now) sheet.now head.zones) draft.old }
+fn entries(contents: &Contents, draft: &mut [u8])
+    requires { entry_from contents.now.wide contents.now.track.head.zones ≤ length draft.old }
+    ensures { draft.new ≡ overwritten_at 6 (all_entries contents.now.wide (track_in contents.now.track) contents.now.sheet.now contents.now.track.head.zones) draft.old }
 {
-    let mut z = 0;
-    while z < head.zones {
-        entry(head, ends, sheet, wide, z, draft);
-        z += 1;
+    for z in 0..contents.track.head.zones {
+        entry(contents, z, draft);
     }
 }
 
-pub fn board(head: Head, ends: &[usize], sheet: &[u32], wide: bool, draft: &mut [u8])
-    requires { Draftable (track_of head ends.now) sheet.now × (entry_from wide head.zones ≤ length draft.old) }
-    ensures { draft.new ≡ overwritten (board_bytes wide (track_of head ends.now) sheet.now) draft.old }
+pub fn board(contents: &Contents, draft: &mut [u8])
+    requires { entry_from contents.now.wide contents.now.track.head.zones ≤ length draft.old }
+    ensures { draft.new ≡ overwritten (board_bytes contents.now.wide (track_in contents.now.track) contents.now.sheet.now) draft.old }
 {
-    first_bytes(head, wide, draft);
-    entries(head, ends, sheet, wide, draft);
+    first_bytes(contents.track.head, contents.wide, draft);
+    entries(contents, draft);
 }

@@ -1,23 +1,16 @@
 -- `read_into` gives what the definition gives.
--- On a refusal that is zeros beside the number; else the bytes of the head and the two filled arrays.
-use native.Mathlib.Omega.{arith}
-use Rattle.board.proofs.GivenLaws.{refused_is, said_is, few_zones, whole_read}
+-- On a refusal that is the arrays as they were lent beside the number; else the bytes of the head and the two filled arrays.
+use Rattle.board.proofs.GivenLaws.{refused_is, said_is}
+use Rattle.std.proofs.lemmas.Result.{err_from_is_err_and}
+use Rattle.board.specs.Given.{board_refused}
 use Rattle.board.proofs.read_into.Goals as goal
 
-pub returns-then-number-ne0 : goal.returns-then-number-ne0
-returns-then-number-ne0 c = refused_is _ c.refusal_of-number.ensures c.if-number-ne0.true c.requires.0 c.requires.1
-
-pub byte-points-requires : goal.byte-points-requires
-byte-points-requires c = omega (arith, whole_read _ c.refusal_of-number.ensures c.if-number-ne0.false)
-
-pub byte-home-requires : goal.byte-home-requires
-byte-home-requires c = omega (arith, whole_read _ c.refusal_of-number.ensures c.if-number-ne0.false)
-
-pub byte-zones-requires : goal.byte-zones-requires
-byte-zones-requires c = omega (arith, whole_read _ c.refusal_of-number.ensures c.if-number-ne0.false)
-
-pub arrays-requires : goal.arrays-requires
-arrays-requires c = record { whole = (whole_read _ c.refusal_of-number.ensures c.if-number-ne0.false, few_zones _ c.refusal_of-number.ensures c.if-number-ne0.false); ends_value = c.requires }
+pub returns-in_err-check : goal.returns-in_err-check
+unfolding board_refused
+returns-in_err-check c =
+    let p = err_from_is_err_and c.from_residual.result c.from_residual.ensures.1 in
+    rw (p.1, p.2, c.requires.0, c.requires.1) (refused_is _ _ c.in_err-check.ensures)
 
 pub returns : goal.returns
-returns c = said_is _ c.refusal_of-number.ensures c.if-number-ne0.false c.byte-points.ensures c.byte-home.ensures c.byte-zones.ensures c.arrays.ensures.ends_after c.arrays.ensures.position_after
+returns c =
+    said_is _ c.in_ok-check.ensures c.byte.ensures c.byte-2.ensures c.byte-3.ensures c.arrays.ensures.ends_after c.arrays.ensures.position_after

@@ -1,65 +1,25 @@
 -- `marker::mark_entries` meets its contract: it gives the number of the plan.
--- The invariant: the entries from `place` on, in the position as it is now, have the whole plan's number. The measure is how many words are left.
-use Prim.Native.Nat.{◌+◌, ◌≤◌}
-use mathlib.Core.Path.{◌≡◌, sym, ◌∙◌}
+-- The invariant: the entries left, in the position as it is now, have the whole plan's number. The measure is how many words are left.
+use Prim.Native.Nat.{◌<◌}
+use mathlib.Core.Path.{sym, ◌∙◌}
 use native.Mathlib.Omega.{arith}
-use lib.ListN.{length, get_or}
-use Rattle.marker.proofs.PlanLaws.{begins, entries_end, entry_stops, entry_fits, entry_passes}
-use Rattle.marker.proofs.mark_entries.Goals.{At-loop-place, Else-number-ne0}
+use lib.ListN.{length}
+use borrow.Author.Tests.{eqb-true, eqb-false}
+use Rattle.std.proofs.lemmas.Result.{err_from_is_err_and}
+use Rattle.marker.proofs.PlanLaws.{entries_end, entry_stops, entry_passes}
+use Rattle.marker.proofs.mark_entries.Goals.{In-loop-left}
 use Rattle.marker.proofs.mark_entries.Goals as goal
 
--- the position is as long as it was
-as_long : (c : At-loop-place) → length c.loop-place.position ≡ length c.args.position.now
-as_long c = c.loop-place.invariant.markable.each ∙ sym c.requires.0.each
+some_left : (c : In-loop-left) → 0 < length c.loop-left.left.now
+some_left c = let n = eqb-false (length c.loop-left.left.now) 0 (sym c.is_empty.ensures ∙ c.loop-left-test.true) in omega arith
 
--- an entry that passes has its count of words
-fits : (c : Else-number-ne0) → c.loop-place.place + 2 + get_or c.args.sheet.now (c.loop-place.place + 1) 0 ≤ length c.args.sheet.now
-fits c = entry_fits c.loop-place.invariant c.loop-place-test.true c.mark_entry-number.ensures c.if-number-ne0.false
+pub returns-in_err-left : goal.returns-in_err-left
+returns-in_err-left c =
+    let p = err_from_is_err_and c.from_residual.result c.from_residual.ensures.1 in
+    rw (p.1, p.2) (entry_stops c.loop-left.invariant (some_left (goal.at.returns-in_err-left c).In-loop-left) c.in_err-left.ensures)
 
-pub loop-place-init : goal.loop-place-init
-loop-place-init c = begins c.requires.0
-
-pub mark_entry-number-requires : goal.mark_entry-number-requires
-mark_entry-number-requires c = (c.loop-place.invariant.markable, c.loop-place-test.true)
-
-pub shape_of-position-then-number-ne0 : goal.shape_of-position-then-number-ne0
-shape_of-position-then-number-ne0 c = c.mark_entry-number.auto.position ∙ as_long (goal.at.shape_of-position-then-number-ne0 c).At-loop-place
-
-pub returns-then-number-ne0 : goal.returns-then-number-ne0
-returns-then-number-ne0 c =
-    entry_stops c.loop-place.invariant c.loop-place-test.true c.mark_entry-number.ensures c.if-number-ne0.true
-
-pub overflow_add-count : goal.overflow_add-count
-overflow_add-count c = let f = fits (goal.at.overflow_add-count c).Else-number-ne0 in omega arith
-
-pub offset_bounds-sheet-place : goal.offset_bounds-sheet-place
-offset_bounds-sheet-place c = let f = fits (goal.at.offset_bounds-sheet-place c).Else-number-ne0 in omega arith
-
-pub bounds-sheet-place : goal.bounds-sheet-place
-bounds-sheet-place c = let f = fits (goal.at.bounds-sheet-place c).Else-number-ne0 in omega arith
-
-pub overflow_cast-count : goal.overflow_cast-count
-overflow_cast-count c = let f = fits (goal.at.overflow_cast-count c).Else-number-ne0 in omega arith
-
-pub overflow_add-place : goal.overflow_add-place
-overflow_add-place c = let f = fits (goal.at.overflow_add-place c).Else-number-ne0 in omega arith
-
-pub overflow_add-place-in-loop-place : goal.overflow_add-place-in-loop-place
-overflow_add-place-in-loop-place c = let f = fits (goal.at.overflow_add-place-in-loop-place c).Else-number-ne0 in omega arith
-
-pub loop-place-smaller : goal.loop-place-smaller
-loop-place-smaller c = let f = fits (goal.at.loop-place-smaller c).Else-number-ne0 in omega arith
-
-pub loop-place-preserved : goal.loop-place-preserved
-loop-place-preserved c =
-    entry_passes c.loop-place.invariant c.loop-place-test.true c.mark_entry-number.ensures c.if-number-ne0.false
-
-pub mark_end-requires : goal.mark_end-requires
-mark_end-requires c = tt
-
-pub shape_of-position : goal.shape_of-position
-shape_of-position c = as_long (goal.at.shape_of-position c).At-loop-place
+pub loop-left-preserved : goal.loop-left-preserved
+loop-left-preserved c = entry_passes c.loop-left.invariant (some_left (goal.at.loop-left-preserved c).In-loop-left) c.in_ok-left.ensures
 
 pub returns : goal.returns
-returns c =
-    entries_end c.loop-place.invariant c.loop-place-test.false c.mark_end.ensures
+returns c = entries_end c.loop-left.invariant (eqb-true _ _ (sym c.is_empty.ensures ∙ c.loop-left-test.false)) c.mark_end.ensures

@@ -2,12 +2,8 @@
 -- From the contracts of `home_set` and `take_off`; that those left are the collapse's is `outs_left` of LeftCarriers.
 use mathlib.Core.Path.{ap, ◌∙◌}
 use Rattle.model.specs.Position.{outs}
-use Rattle.parts.proofs.WordWays.{among_most, bounded_among}
 use Rattle.parts.proofs.LeftCarriers.{outs_left}
 use Rattle.parts.proofs.collapse_position.Goals as goal
-
-pub take_off-requires : goal.take_off-requires
-take_off-requires c = among_most (bounded_among c.requires)
 
 pub returns : goal.returns
 returns c =

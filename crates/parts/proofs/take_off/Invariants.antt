@@ -1,11 +1,7 @@
 -- `parts::take_off` meets its contract: every carrier that leaves at a point of the set is taken off.
--- The invariant: the zones below z are done, the others as they were (laws of TakenOff). The measure is how many zones are left.
-use Prim.Native.Nat.{◌-◌, ◌≤◌}
+-- The invariant: the zones below z are done, the others as they were (laws of TakenOff).
 use Rattle.parts.proofs.TakenOff.{Taking}
 use Rattle.parts.proofs.take_off.Given as goal
 
 abbrev pub invariant-loop-z : goal.invariant-loop-z
-invariant-loop-z l = (l.z ≤ l.zones) × Taking l.ends l.set l.initial.position l.z l.position
-
-abbrev pub decreases-loop-z : goal.decreases-loop-z
-decreases-loop-z l = l.zones - l.z
+invariant-loop-z l = Taking l.ends l.set l.initial.position l.z l.position

@@ -1,17 +1,8 @@
 -- `parts::zones_in` meets its contract: it gives the sum of the counts of the part's points.
 -- The invariant: n and the sum of the counts of `rest` make the whole sum (laws of StartLaws). The measure is the count of bits of `rest`.
 use native.Mathlib.Omega.{arith}
-use Rattle.parts.proofs.StartLaws.{adding_starts, adding_most, adding_more, adding_fewer, adding_done}
+use Rattle.parts.proofs.StartLaws.{adding_most, adding_more, adding_fewer, adding_done}
 use Rattle.parts.proofs.zones_in.Goals as goal
-
-pub loop-rest-init : goal.loop-rest-init
-loop-rest-init c = adding_starts _ _ c.ranges.part.fits
-
-pub offset_bounds-counts-lowest : goal.offset_bounds-counts-lowest
-offset_bounds-counts-lowest c = omega (arith, c.lowest.ensures.inside)
-
-pub bounds-counts-lowest : goal.bounds-counts-lowest
-bounds-counts-lowest c = omega (arith, c.lowest.ensures.inside, c.requires.0)
 
 pub overflow_add-n : goal.overflow_add-n
 overflow_add-n c = omega (arith, adding_most c.loop-rest.invariant c.lowest.ensures, c.requires.1)

@@ -1,13 +1,14 @@
 -- `send_all` meets its contract: it stores the plan of the key's run, leaves the run's last position, and gives the search count.
 -- The invariant: what is stored and the run from here make the whole run, and so for what is counted (laws of Sends). The measure is how many
 -- carriers are out.
-use Rattle.model.specs.Track.{track_of}
+use lib.ListN.{length}
+use Rattle.model.specs.Track.{track_in}
+use Rattle.model.specs.Position.{outs}
 use Rattle.search.proofs.Sends.{Underway}
 use Rattle.search.proofs.send_all.Given as goal
 
-abbrev pub invariant-loop-out : goal.invariant-loop-out
-invariant-loop-out l =
-    Underway (track_of l.head l.ends) l.follows l.order l.count l.initial.words l.initial.froms l.initial.free l.initial.position l.initial.plan l.words l.froms l.free l.position l.plan l.out l.at l.searched
+abbrev pub invariant-rounds : goal.invariant-rounds
+invariant-rounds l = Underway (track_in l.track) l.follows l.order l.initial.position l.initial.plan l.free l.position l.plan l.planned l.searched
 
-abbrev pub decreases-loop-out : goal.decreases-loop-out
-decreases-loop-out l = l.out
+abbrev pub decreases-rounds : goal.decreases-rounds
+decreases-rounds l = length (outs l.position)

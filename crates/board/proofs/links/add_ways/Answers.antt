@@ -1,12 +1,9 @@
 -- `add_ways` adds the ways of all words, and gives the points where two or more start.
 -- The invariant: both are done for the words of the first z zones.
 use Prim.Native.Nat.{◌<◌}
-use mathlib.Core.Path.{sym, ◌∙◌, ap}
 use native.Mathlib.Omega.{arith}
-use lib.ListN.{length}
-use Rattle.board.proofs.Doubling.{starts_first, starts_zone, starts_last}
-use Rattle.board.proofs.Together.{ways_first, ways_zone, ways_last, added_size, first_in, second_in}
-use Rattle.board.proofs.ZoneBytes.{zone_in}
+use Rattle.board.proofs.Doubling.{starts_first, starts_zone}
+use Rattle.board.proofs.Together.{ways_first, ways_zone, added_size, first_in, second_in}
 use Rattle.board.proofs.links.add_ways.Goals.{After-zone_at-said}
 use Rattle.board.proofs.links.add_ways.Goals as goal
 
@@ -19,18 +16,8 @@ second : (c : After-zone_at-said) → c.zone_at-said.result.b < 64
 second c =
     second_in c.requires.0.1 c.byte-zones.ensures c.loop-z-test.true c.zone_at-said.ensures
 
-pub byte-zones-requires : goal.byte-zones-requires
-byte-zones-requires c = omega (arith, c.requires.0.0)
-
-pub is_wide-wide-requires : goal.is_wide-wide-requires
-is_wide-wide-requires c = omega (arith, c.requires.0.0)
-
 pub loop-z-init : goal.loop-z-init
-loop-z-init c = (omega arith, ways_first c.args.bytes.now c.requires.1, starts_first _)
-
-pub zone_at-said-requires : goal.zone_at-said-requires
-zone_at-said-requires c =
-    zone_in c.requires.0.0 c.is_wide-wide.ensures c.byte-zones.ensures c.loop-z-test.true
+loop-z-init c = (ways_first c.args.bytes.now c.requires.1, starts_first _)
 
 pub add_second-twice-requires : goal.add_second-twice-requires
 add_second-twice-requires c = first (goal.at.add_second-twice-requires c).After-zone_at-said
@@ -45,28 +32,18 @@ pub with-once-requires-in-loop-z : goal.with-once-requires-in-loop-z
 with-once-requires-in-loop-z c = second (goal.at.with-once-requires-in-loop-z c).After-zone_at-said
 
 pub add_way-requires : goal.add_way-requires
-add_way-requires c = (omega (arith, c.loop-z.invariant.1.long, first (goal.at.add_way-requires c).After-zone_at-said), second (goal.at.add_way-requires c).After-zone_at-said)
+add_way-requires c = (omega (arith, c.loop-z.invariant.0.long, first (goal.at.add_way-requires c).After-zone_at-said), second (goal.at.add_way-requires c).After-zone_at-said)
 
 pub add_way-requires-in-loop-z : goal.add_way-requires-in-loop-z
 add_way-requires-in-loop-z c =
     let zone = c.zone_at-said.result in
-    let kept = added_size c.loop-z.ways zone.a zone.b c.loop-z.invariant.1.long c.add_way.ensures in
+    let kept = added_size c.loop-z.ways zone.a zone.b c.loop-z.invariant.0.long c.add_way.ensures in
     (omega (arith, kept, second (goal.at.add_way-requires-in-loop-z c).After-zone_at-said), first (goal.at.add_way-requires-in-loop-z c).After-zone_at-said)
 
 pub loop-z-preserved : goal.loop-z-preserved
 loop-z-preserved c =
     let inv = c.loop-z.invariant in (
-      omega arith,
-      ways_zone inv.1 c.zone_at-said.ensures (first (goal.at.loop-z-preserved c).After-zone_at-said) (second (goal.at.loop-z-preserved c).After-zone_at-said) c.add_way.ensures c.add_way-in-loop-z.ensures,
-      starts_zone inv.2 c.zone_at-said.ensures
+      ways_zone inv.0 c.zone_at-said.ensures (first (goal.at.loop-z-preserved c).After-zone_at-said) (second (goal.at.loop-z-preserved c).After-zone_at-said) c.add_way.ensures c.add_way-in-loop-z.ensures,
+      starts_zone inv.1 c.zone_at-said.ensures
           c.with-once.ensures c.add_second-twice.ensures c.with-once-in-loop-z.ensures c.add_second-twice-in-loop-z.ensures,
     )
-
-pub shape_of-ways : goal.shape_of-ways
-shape_of-ways c = c.loop-z.invariant.1.long ∙ sym (ap length c.requires.1)
-
-pub returns : goal.returns
-returns c =
-    let inv = c.loop-z.invariant in
-    let zones = c.byte-zones.ensures in
-    (ways_last zones inv.0 c.loop-z-test.false inv.1, starts_last zones inv.0 c.loop-z-test.false inv.2)

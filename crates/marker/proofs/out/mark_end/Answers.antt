@@ -1,19 +1,20 @@
--- `marker::out::mark_end` meets its contract: 34 where a carrier is still out, else 0.
--- The invariant: a zone is held from zone z on exactly where one is in the whole position. The measure is how many zones are left.
-use mathlib.Core.Path.{sym, ap, ◌∙◌}
-use borrow.Author.Tests.{eq-eqb, ne_eqb}
-use mathlib.Core.Bool.{not}
-use Rattle.marker.proofs.ScanLaws.{end_of, scan_begins, scan_passed, scan_found, scan_ended, end_scanned}
+-- `marker::out::mark_end` meets its contract: a carrier is still out, or none is.
+-- std's search through the position decides the definition, by `end_found` of ScanLaws.
+use Rattle.std.proofs.Common.{◌≡◌, rules, tests, not}
+use lib.Dec.{eqb}
+use Rattle.std.specs.List.{list_any}
+use Rattle.std.proofs.lemmas.Iterator.{YieldsList-from_slice}
+use Rattle.std.proofs.lemmas.Iterator.Search.{any_from_yields_List}
+use Rattle.model.specs.Position.{carrier_of}
+use Rattle.marker.proofs.ScanLaws.{end_found}
+use Rattle.marker.proofs.out.mark_end.Goals.{After-any}
 use Rattle.marker.proofs.out.mark_end.Goals as goal
 
-pub loop-z-init : goal.loop-z-init
-loop-z-init c = scan_begins _ _
+any_held : (c : After-any) → c.any.result ≡ list_any (λ v. not (eqb (carrier_of v) 0)) c.args.position.now
+any_held c = any_from_yields_List (λ v. not (eqb (carrier_of v) 0)) _ _ _ c.any.ensures.ran (YieldsList-from_slice c.args.position.now (cc)) (λ x b q k. search (rules, tests))
 
-pub returns-then-position-z-ne0 : goal.returns-then-position-z-ne0
-returns-then-position-z-ne0 c = sym (end_scanned _ ∙ ap end_of (scan_found c.loop-z.invariant c.loop-z-test.true (ap not (ne_eqb _ _ c.if-position-z-ne0.true))))
-
-pub loop-z-preserved : goal.loop-z-preserved
-loop-z-preserved c = scan_passed c.loop-z.invariant c.loop-z-test.true (ap not (eq-eqb _ _ c.if-position-z-ne0.false))
+pub returns-then-any : goal.returns-then-any
+returns-then-any c = end_found _ (any_held (goal.at.returns-then-any c).After-any) c.if-any.true
 
 pub returns : goal.returns
-returns c = sym (end_scanned _ ∙ ap end_of (scan_ended c.loop-z.invariant c.loop-z-test.false))
+returns c = end_found _ (any_held (goal.at.returns c).After-any) c.if-any.false

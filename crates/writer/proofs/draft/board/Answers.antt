@@ -5,4 +5,4 @@ use Rattle.writer.proofs.draft.board.Goals as goal
 
 pub returns : goal.returns
 returns c =
-    board_drafted c.args.wide c.args.head c.args.ends.now c.args.sheet.now c.args.draft.now c.requires.1 c.first_bytes.ensures c.entries.ensures
+    board_drafted c.args.contents.now.wide c.args.contents.now.track.head c.args.contents.now.track.ends.now c.args.contents.now.sheet.now c.args.draft.now c.requires c.first_bytes.ensures c.entries.ensures

@@ -1,18 +1,14 @@
 -- `writer::parsed::any_from` meets its contract: whether some word of the sheet is so high.
--- The invariant: none of the first z words is. The measure is how many words are left.
-use borrow.Author.Tests.{lt-leb}
-use Rattle.board.proofs.Turns.{none_first, none_next}
-use Rattle.writer.proofs.HighWords.{high_met, none_high}
+-- The chain tries each word.
+use mathlib.Core.Path.{◌∙◌}
+use lib.Dec.{leb}
+use Rattle.std.proofs.Common.{rules, tests}
+use Rattle.std.proofs.lemmas.Iterator.{YieldsList-from_slice}
+use Rattle.std.proofs.lemmas.Iterator.Search.{any_from_yields_List}
+use Rattle.board.proofs.Chains.{any_listed}
 use Rattle.writer.proofs.parsed.any_from.Goals as goal
 
-pub loop-z-init : goal.loop-z-init
-loop-z-init c = none_first _ _
-
-pub loop-z-preserved : goal.loop-z-preserved
-loop-z-preserved c = none_next _ c.loop-z.invariant c.loop-z-test.true (lt-leb _ _ c.if-least-sheet.false)
-
 pub returns : goal.returns
-returns c = none_high c.args.sheet.now c.args.least c.loop-z.invariant c.loop-z-test.false
-
-pub returns-then-least-sheet : goal.returns-then-least-sheet
-returns-then-least-sheet c = high_met c.args.sheet.now c.args.least c.loop-z-test.true c.if-least-sheet.true
+returns c =
+    any_from_yields_List (leb c.args.least) _ _ _ c.any.ensures.ran (YieldsList-from_slice c.args.sheet.now (cc)) (λ x b q k. search (rules, tests)) ∙
+    any_listed (leb c.args.least) c.args.sheet.now

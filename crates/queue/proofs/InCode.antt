@@ -1,6 +1,6 @@
 -- A queue in code as two lists: they are as long as its array, and a word stored in the array is a number stored in each.
 -- Each list is a map over the array, so what is read or stored at a place is read or stored at that place of each.
-use Prim.Native.Nat.{ℕ}
+use Prim.Native.Nat.{ℕ, ◌<◌}
 use mathlib.Core.Path.{◌≡◌, refl, sym, ◌∙◌}
 use native.Mathlib.Omega.{arith}
 use lib.ListN.{length, get_or, set, length-map, length-set, get_or-map}
@@ -10,7 +10,7 @@ use Rattle.queue.specs.declared.Found.{Found}
 use Rattle.queue.specs.declared.Queue.{Queue}
 use Rattle.queue.specs.Queue.{words_in, froms_in, Started}
 
-module _ (q : Queue) where
+module _ {n : ℕ} (q : Queue n) where
   pub words_length : length (words_in q) ≡ length q.found
   unfolding words_in
   words_length = length-map q.found (λ f. f.word)
@@ -28,7 +28,7 @@ module _ (q : Queue) where
   from_at place = sym (get_or-map (λ (f : Found). f.from) q.found place (record { word = 0; from = 0 }))
 
   module _ (place word from count : ℕ) where
-    abbrev stored : Queue
+    abbrev stored : Queue n
     stored = record { found = set q.found place (record { word = word; from = from }); count = count }
 
     pub word_stored : words_in stored ≡ set (words_in q) place word
@@ -39,8 +39,8 @@ module _ (q : Queue) where
     unfolding froms_in
     from_stored = map-set (λ f. f.from) q.found place (record { word = word; from = from })
 
-  pub starts : (word : ℕ) → length q.found ≡ 192 → Started word (words_in (stored 0 word 0 1)) (froms_in (stored 0 word 0 1)) 1
-  starts word long = rw (word_stored 0 word 0 1, from_stored 0 word 0 1) record {
+  pub starts : (word : ℕ) → length q.found ≡ n → 0 < n → Started n word (words_in (stored 0 word 0 1)) (froms_in (stored 0 word 0 1)) 1
+  starts word long some = rw (word_stored 0 word 0 1, from_stored 0 word 0 1) record {
     one = refl;
     first_word = take-suc-set (words_in q) 0 word (omega (arith, words_length));
     first_from = take-suc-set (froms_in q) 0 0 (omega (arith, froms_length));

@@ -52,7 +52,7 @@ module _ {m : ℕ} {p : Position} {c : ℕ} {words froms enterable : List ℕ} {
   }
 
 -- one word is in the queue
-pub queued_one : (m : ℕ) (p : Position) (c : ℕ) {words froms enterable : List ℕ} {w n : ℕ} → m ≤ 192 → Started w words froms n → length enterable ≡ 3 → w < m
+pub queued_one : (m : ℕ) (p : Position) (c : ℕ) {words froms enterable : List ℕ} {w n : ℕ} → m ≤ 192 → Started 192 w words froms n → length enterable ≡ 3 → w < m
     → ((v : ℕ) → v < m → in_set enterable v ≡ (may_enter p c v && not (eqb v w))) → Queued m p c words froms enterable n
 queued_one m p c {words} {froms} {enterable} {w} {n} few s d h enters = rw s.one record {
   room_words = omega (arith, s.room_words);

@@ -2,18 +2,19 @@
 use Rattle.std.specs.Prelude.{ℕ, List, [], ◌∷◌, ◌≡◌, length, map, take}
 use Rattle.queue.specs.declared.Queue.{Queue}
 
--- the word at each place
-unfoldable pub words_in : Queue → List ℕ
-words_in q = map (λ f. f.word) q.found
+module _ {n : ℕ} where
+  -- the word at each place
+  unfoldable pub words_in : Queue n → List ℕ
+  words_in q = map (λ f. f.word) q.found
 
--- the place of the word that it was found from
-unfoldable pub froms_in : Queue → List ℕ
-froms_in q = map (λ f. f.from) q.found
+  -- the place of the word that it was found from
+  unfoldable pub froms_in : Queue n → List ℕ
+  froms_in q = map (λ f. f.from) q.found
 
--- one word is in the queue, which has a place for each word of a track
-pub record Started (word : ℕ) (words froms : List ℕ) (count : ℕ) : Type 0 where
+-- one word is in the queue, which has so many places
+pub record Started (places word : ℕ) (words froms : List ℕ) (count : ℕ) : Type 0 where
   pub one : count ≡ 1
   pub first_word : take 1 words ≡ word ∷ []
   pub first_from : take 1 froms ≡ 0 ∷ []
-  pub room_words : length words ≡ 192
-  pub room_froms : length froms ≡ 192
+  pub room_words : length words ≡ places
+  pub room_froms : length froms ≡ places

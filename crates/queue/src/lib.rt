@@ -17,28 +17,29 @@ pub struct Found {
     pub from: usize,
 }
 
-// The queue of a breadth-first search: the words found, in turn, are at the places below `count`. A track has at most 192 words,
-// and there is no heap.
+// The queue of a breadth-first search, with room for N words: the words found, in turn, are at the places below `count`. There is no heap. A track
+// has at most 192 words, so a search takes a queue with room for those.
 #[derive(Drop)]
-pub struct Queue {
-    pub found: [Found; 192],
+pub struct Queue<const N: usize> {
+    pub found: [Found; N],
     pub count: usize,
 }
 
-impl Queue {
+impl<const N: usize> Queue<N> {
     // With no word yet.
-    pub fn new() -> Queue
+    pub fn new() -> Queue<N>
         ensures { result.count ≡ 0 }
     {
         Queue {
-            found: [Found { word: 0, from: 0 }; 192],
+            found: [Found { word: 0, from: 0 }; N],
             count: 0,
         }
     }
 
     // Begins again, with one word.
     pub fn start(&mut self, word: usize)
-        ensures { Started word (words_in self.new) (froms_in self.new) self.new.count }
+        requires { 0 < N }
+        ensures { Started N word (words_in self.new) (froms_in self.new) self.new.count }
     {
         self.found[0] = Found { word, from: 0 };
         self.count = 1;

@@ -6,7 +6,7 @@ ghost use Rattle.queue.specs.Offers.{members, QueueRoom, Stored, Offering, Offer
 use crate::Queue;
 
 // Stores the words of one block of a set at the queue's end, ascending, as found from place i.
-fn store_block(first: usize, block: u64, i: usize, queue: &mut Queue)
+fn store_block<const N: usize>(first: usize, block: u64, i: usize, queue: &mut Queue<N>)
     requires { (first ≤ 128) × QueueRoom (members first block) queue.old.count (words_in queue.old) (froms_in queue.old) }
     ensures { Stored (members first block) i queue.old.count (words_in queue.old) (froms_in queue.old) (words_in queue.new) (froms_in queue.new) queue.new.count }
 {
@@ -19,7 +19,13 @@ fn store_block(first: usize, block: u64, i: usize, queue: &mut Queue)
 
 // Offers the words that come after `last`, ascending, as found from place i: each that may still be entered goes to the queue's end, and
 // may be entered no more.
-pub fn offer_next(follows: &[u64], last: usize, i: usize, queue: &mut Queue, enterable: &mut [u64])
+pub fn offer_next<const N: usize>(
+    follows: &[u64],
+    last: usize,
+    i: usize,
+    queue: &mut Queue<N>,
+    enterable: &mut [u64],
+)
     requires { Offering follows.now last queue.old.count (words_in queue.old) (froms_in queue.old) enterable.old }
     ensures { Offered follows.now last i queue.old.count (words_in queue.old) (froms_in queue.old) enterable.old (words_in queue.new) (froms_in queue.new) enterable.new queue.new.count }
 {

@@ -6,7 +6,7 @@ ghost use Rattle.queue.specs.Written.{route_to, Falling, Readable, EntryRoom, En
 use crate::Queue;
 
 // How many words lead from place 0 to a place.
-fn route_length(queue: &Queue, place: usize) -> usize
+fn route_length<const N: usize>(queue: &Queue<N>, place: usize) -> usize
     requires { Falling (froms_in queue.now) place }
     ensures { result ≡ length (route_to [] (froms_in queue.now) place) }
 {
@@ -21,7 +21,7 @@ fn route_length(queue: &Queue, place: usize) -> usize
 }
 
 // Stores the words from place 0 to a place, from the last to the first.
-fn write_route(queue: &Queue, place: usize, route: &mut [u16])
+fn write_route<const N: usize>(queue: &Queue<N>, place: usize, route: &mut [u16])
     requires { Readable (words_in queue.now) (froms_in queue.now) place × (length route.old ≡ length (route_to (words_in queue.now) (froms_in queue.now) place)) }
     ensures { route.new ≡ route_to (words_in queue.now) (froms_in queue.now) place }
 {
@@ -33,7 +33,13 @@ fn write_route(queue: &Queue, place: usize, route: &mut [u16])
 }
 
 // Stores an entry of the plan from its word k on: the carrier, the count of words, the words. Gives where the next one starts.
-pub fn write_entry(carrier: u32, place: usize, queue: &Queue, plan: &mut [u16], k: usize) -> usize
+pub fn write_entry<const N: usize>(
+    carrier: u32,
+    place: usize,
+    queue: &Queue<N>,
+    plan: &mut [u16],
+    k: usize,
+) -> usize
     requires { EntryRoom carrier place (words_in queue.now) (froms_in queue.now) plan.old k }
     ensures { EntryWritten carrier place (words_in queue.now) (froms_in queue.now) plan.old k plan.new result }
 {

@@ -53,7 +53,7 @@ pub record Looking (t : Track) (p : List ℕ) (c standing : ℕ) (words froms en
   pub explored : Explored (nexts t p c) (2 * t.zones) standing i (queue_in words froms n)
   pub arrives : Arrival t words i arrival
 
-pub looking_starts : (t : Track) (p : List ℕ) (c standing : ℕ) {words froms enterable : List ℕ} {n : ℕ} → 2 * t.zones ≤ 192 → Started standing words froms n → length enterable ≡ 3 → standing < 2 * t.zones
+pub looking_starts : (t : Track) (p : List ℕ) (c standing : ℕ) {words froms enterable : List ℕ} {n : ℕ} → 2 * t.zones ≤ 192 → Started 192 standing words froms n → length enterable ≡ 3 → standing < 2 * t.zones
     → ((v : ℕ) → v < 2 * t.zones → in_set enterable v ≡ (may_enter p c v && not (eqb v standing)))
     → Looking t p c standing words froms enterable n 0 None
 looking_starts t p c standing {words} {froms} {enterable} {n} few s d h enters = record {

@@ -125,7 +125,7 @@ module _ {t : Track} {p follows free order : List ℕ} {searched k : ℕ} (x : H
       few_out : length (outs p) ≤ 96
       few_out = omega (arith, outs_most p, x.next.seeking.tables.each, x.next.seeking.tables.few)
 
-  pub turn_looks : {words froms enterable : List ℕ} {n w : ℕ} → w ≡ rev standing → Added w free enterable → length enterable ≡ 3 → Started standing words froms n
+  pub turn_looks : {words froms enterable : List ℕ} {n w : ℕ} → w ≡ rev standing → Added w free enterable → length enterable ≡ 3 → Started 192 standing words froms n
       → Looking t p carrier standing words froms enterable n 0 None
   turn_looks e a b s =
       looking_starts t p carrier standing (omega (arith, x.next.seeking.tables.few)) s b turn_standing

@@ -33,7 +33,7 @@ fn first_to_go(
     follows: &[u64],
     free: &[u64; 3],
     order: &[usize],
-    queue: &mut Queue,
+    queue: &mut Queue<192>,
 ) -> Outcome
     requires { Seeking (track_in track.now) position.now follows.now free.now order.now }
     ensures { Sought (track_in track.now) position.now (words_in queue.new) (froms_in queue.new) result }
@@ -99,7 +99,7 @@ fn send_all(
     requires { Prepared (track_in track.now) position.old follows.now free.old order.now plan.old }
     ensures { SentHome (track_in track.now) position.old plan.old position.new plan.new result }
 {
-    let mut queue = Queue::new();
+    let mut queue: Queue<192> = Queue::new();
     let mut planned = 0;
     let mut searched = 0u32;
     'rounds: loop {

@@ -45,14 +45,14 @@ returns-then-place-queue c =
 
 -- where a place is left to look at
 pub word-w-requires : goal.word-w-requires
-word-w-requires c = turn_inside (turn (goal.at.word-w-requires c).Else-gone) c.loop-place.invariant.0 c.if-place-queue.false
+word-w-requires c = (omega arith, turn_inside (turn (goal.at.word-w-requires c).Else-gone) c.loop-place.invariant.0 c.if-place-queue.false)
 
 pub overflow_add-place : goal.overflow_add-place
 overflow_add-place c = omega (arith, looking_few c.loop-place.invariant.0 c.if-place-queue.false, c.requires.tables.few)
 
 -- at a place that leaves elsewhere
 pub offer_next-requires : goal.offer_next-requires
-offer_next-requires c = rw c.word-w.ensures (turn_offers (turn (goal.at.offer_next-requires c).Else-gone) c.loop-place.invariant.0 c.if-place-queue.false)
+offer_next-requires c = (omega arith, rw c.word-w.ensures (turn_offers (turn (goal.at.offer_next-requires c).Else-gone) c.loop-place.invariant.0 c.if-place-queue.false))
 
 -- after either
 pub loop-place-smaller : goal.loop-place-smaller

@@ -4,4 +4,4 @@ use Rattle.queue.proofs.InCode.{starts}
 use Rattle.queue.proofs.Queue.start.Goals as goal
 
 pub returns : goal.returns
-returns c = starts c.args.self.now _ (omega arith)
+returns g c = starts c.args.self.now _ (omega arith) c.requires

@@ -5,6 +5,6 @@ use Rattle.queue.proofs.OfferBlocks.{OfferingBlocks}
 use Rattle.queue.proofs.offers.offer_next.Given as goal
 
 abbrev pub invariant-loop-k : goal.invariant-loop-k
-invariant-loop-k l =
+invariant-loop-k g l =
     OfferingBlocks l.follows l.last l.i l.initial.queue.count (words_in l.initial.queue) (froms_in l.initial.queue) l.initial.enterable
     (words_in l.queue) (froms_in l.queue) l.enterable l.queue.count l.k

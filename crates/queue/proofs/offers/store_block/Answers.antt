@@ -1,19 +1,20 @@
 -- `store_block` stores the words of a block at the queue's end, each found from place i.
 -- The invariant: with the words of `rest` stored from the queue's end on, the lists are as they will be. The measure is the count of bits of `rest`.
+use Rattle.std.proofs.Common.{rules}
 use Rattle.queue.proofs.BlockLaws.{block_room, block_more, block_fewer, block_done}
 use Rattle.queue.proofs.offers.store_block.Goals as goal
 
 pub push-requires : goal.push-requires
-push-requires c = (block_room c.requires.1 c.loop-rest.invariant c.lowest.ensures).0
+push-requires g c = (search rules, (block_room c.requires.1 c.loop-rest.invariant c.lowest.ensures).0)
 
 pub loop-rest-smaller : goal.loop-rest-smaller
-loop-rest-smaller c = let low = c.lowest.ensures in rw (c.but_lowest-rest.ensures.rest c.lowest.result low) (block_fewer c.requires.1 c.loop-rest.invariant low)
+loop-rest-smaller g c = let low = c.lowest.ensures in rw (c.but_lowest-rest.ensures.rest c.lowest.result low) (block_fewer c.requires.1 c.loop-rest.invariant low)
 
 pub loop-rest-preserved : goal.loop-rest-preserved
-loop-rest-preserved c =
+loop-rest-preserved g c =
     let low = c.lowest.ensures in
     rw (c.push.ensures.words, c.push.ensures.froms, c.push.ensures.longer, c.but_lowest-rest.ensures.rest c.lowest.result low)
     (block_more c.requires.1 c.loop-rest.invariant low)
 
 pub returns : goal.returns
-returns c = block_done c.requires.1 c.loop-rest.invariant c.loop-rest-test.false
+returns g c = block_done c.requires.1 c.loop-rest.invariant c.loop-rest-test.false

@@ -6,8 +6,8 @@ use Rattle.queue.proofs.BlockLaws.{StoringBlock}
 use Rattle.queue.proofs.offers.store_block.Given as goal
 
 abbrev pub invariant-loop-rest : goal.invariant-loop-rest
-invariant-loop-rest l =
+invariant-loop-rest g l =
     StoringBlock l.first l.block l.i l.initial.queue.count (words_in l.initial.queue) (froms_in l.initial.queue) (words_in l.queue) (froms_in l.queue) l.queue.count l.rest
 
 abbrev pub decreases-loop-rest : goal.decreases-loop-rest
-decreases-loop-rest l = ones l.rest
+decreases-loop-rest g l = ones l.rest

@@ -6,13 +6,13 @@ use Rattle.queue.proofs.Routing.{counting_starts, counting_more, counting_done}
 use Rattle.queue.proofs.route.route_length.Goals as goal
 
 pub loop-j-init : goal.loop-j-init
-loop-j-init c = counting_starts _ _
+loop-j-init g c = counting_starts _ _
 
 pub overflow_add-n : goal.overflow_add-n
-overflow_add-n c = omega (arith, c.loop-j.invariant.bound, c.requires.inside, froms_length c.args.queue.now)
+overflow_add-n g c = omega (arith, c.loop-j.invariant.bound, c.requires.inside, froms_length c.args.queue.now)
 
 pub loop-j-preserved : goal.loop-j-preserved
-loop-j-preserved c = rw c.found_from-j.ensures (counting_more c.requires c.loop-j.invariant c.loop-j-test.true)
+loop-j-preserved g c = rw c.found_from-j.ensures (counting_more c.requires c.loop-j.invariant c.loop-j-test.true)
 
 pub returns : goal.returns
-returns c = counting_done c.requires c.loop-j.invariant c.loop-j-test.false
+returns g c = counting_done c.requires c.loop-j.invariant c.loop-j-test.false

@@ -5,7 +5,7 @@ use Rattle.queue.proofs.Routing.{CountingWords}
 use Rattle.queue.proofs.route.route_length.Given as goal
 
 abbrev pub invariant-loop-j : goal.invariant-loop-j
-invariant-loop-j l = CountingWords (froms_in l.queue) l.place l.n l.j
+invariant-loop-j g l = CountingWords (froms_in l.queue) l.place l.n l.j
 
 abbrev pub decreases-loop-j : goal.decreases-loop-j
-decreases-loop-j l = l.j
+decreases-loop-j g l = l.j

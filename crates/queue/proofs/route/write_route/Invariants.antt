@@ -5,4 +5,4 @@ use Rattle.queue.proofs.Routing.{StoringRoute}
 use Rattle.queue.proofs.route.write_route.Given as goal
 
 abbrev pub invariant-loop-k : goal.invariant-loop-k
-invariant-loop-k l = StoringRoute (words_in l.queue) (froms_in l.queue) l.place l.initial.route l.route l.k l.j
+invariant-loop-k g l = StoringRoute (words_in l.queue) (froms_in l.queue) l.place l.initial.route l.route l.k l.j

@@ -39,8 +39,8 @@ module _ {n : ℕ} (q : Queue n) where
     unfolding froms_in
     from_stored = map-set (λ f. f.from) q.found place (record { word = word; from = from })
 
-  pub starts : (word : ℕ) → length q.found ≡ n → 0 < n → Started n word (words_in (stored 0 word 0 1)) (froms_in (stored 0 word 0 1)) 1
-  starts word long some = rw (word_stored 0 word 0 1, from_stored 0 word 0 1) record {
+  pub starts : (word : ℕ) → length q.found ≡ n → 0 < n → Started n word (set (words_in q) 0 word) (set (froms_in q) 0 0) 1
+  starts word long some = record {
     one = refl;
     first_word = take-suc-set (words_in q) 0 word (omega (arith, words_length));
     first_from = take-suc-set (froms_in q) 0 0 (omega (arith, froms_length));

@@ -41,8 +41,8 @@ impl<const N: usize> Queue<N> {
         requires { 0 < N }
         ensures { Started N word (words_in self.new) (froms_in self.new) self.new.count }
     {
-        self.found[0] = Found { word, from: 0 };
-        self.count = 1;
+        self.count = 0;
+        self.push(word, 0);
     }
 
     // Puts a word at the end.
@@ -54,6 +54,15 @@ impl<const N: usize> Queue<N> {
     {
         self.found[self.count] = Found { word, from };
         self.count += 1;
+    }
+
+    // Stores a word at a place, whether it is counted or not.
+    pub fn put(&mut self, place: usize, word: usize, from: usize)
+        requires { place < length (words_in self.old) }
+        ensures words { words_in self.new ≡ slice_set (words_in self.old) place word }
+        ensures froms { froms_in self.new ≡ slice_set (froms_in self.old) place from }
+    {
+        self.found[place] = Found { word, from };
     }
 
     // The word at a place.

@@ -10,11 +10,15 @@ fn store_block<const N: usize>(first: usize, block: u64, i: usize, queue: &mut Q
     requires { (first ≤ 128) × QueueRoom (members first block) queue.old.count (words_in queue.old) (froms_in queue.old) }
     ensures { Stored (members first block) i queue.old.count (words_in queue.old) (froms_in queue.old) (words_in queue.new) (froms_in queue.new) queue.new.count }
 {
+    // Counted apart: the queue's own count would be read and written anew for each word.
+    let mut count = queue.count;
     let mut rest = block;
     while rest != 0 {
-        queue.push(first + bits::lowest(rest), i);
+        queue.put(count, first + bits::lowest(rest), i);
+        count += 1;
         rest = bits::but_lowest(rest);
     }
+    queue.count = count;
 }
 
 // Offers the words that come after `last`, ascending, as found from place i: each that may still be entered goes to the queue's end, and

@@ -1,7 +1,11 @@
 -- `start` meets its contract: the first place of each of the two lists is stored.
 use native.Mathlib.Omega.{arith}
-use Rattle.queue.proofs.InCode.{starts}
+use Rattle.std.proofs.Common.{rules}
+use Rattle.queue.proofs.InCode.{words_length, starts}
 use Rattle.queue.proofs.Queue.start.Goals as goal
 
+pub push-requires : goal.push-requires
+push-requires g c = (search rules, omega (arith, c.requires, words_length {n = g.row.N} (record { found = c.args.self.now.found; count = 0 })))
+
 pub returns : goal.returns
-returns g c = starts c.args.self.now _ (omega arith) c.requires
+returns g c = rw (c.push.ensures.words, c.push.ensures.froms, c.push.ensures.longer) (starts {n = g.row.N} (record { found = c.args.self.now.found; count = 0 }) _ (omega arith) c.requires)

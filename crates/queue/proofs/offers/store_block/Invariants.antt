@@ -7,7 +7,7 @@ use Rattle.queue.proofs.offers.store_block.Given as goal
 
 abbrev pub invariant-loop-rest : goal.invariant-loop-rest
 invariant-loop-rest g l =
-    StoringBlock l.first l.block l.i l.initial.queue.count (words_in l.initial.queue) (froms_in l.initial.queue) (words_in l.queue) (froms_in l.queue) l.queue.count l.rest
+    StoringBlock l.first l.block l.i l.initial.queue.count (words_in l.initial.queue) (froms_in l.initial.queue) (words_in l.queue) (froms_in l.queue) l.count l.rest
 
 abbrev pub decreases-loop-rest : goal.decreases-loop-rest
 decreases-loop-rest g l = ones l.rest

@@ -14,12 +14,26 @@ use model::Track;
 // In the place of a word: into home. It stays a number, since `carry_out` takes a move as a log names it (docs/DECISIONS.md, 48).
 const HOME: u16 = 65535;
 
-// The zone where the carrier stands, where it stands in one. A move's time is this look.
+// The zone where the carrier stands, where it stands in one. A move's time is this look, so the loop looks at four zones in each turn, with one test
+// for all four: where one of them holds the carrier, or fewer are left, the rest is looked at zone by zone.
 fn zone_for(position: &[u32], carrier: u32) -> Option<usize>
     ensures found { option_in result ≡ zone_for position.now carrier }
     ensures within { IfSome result (λ zone. zone < length position.now) }
 {
-    position.iter().position(|held| *held / 2 == carrier)
+    let mut left = position;
+    while let [a, b, c, d, others @ ..] = left {
+        let here = (*a / 2 == carrier)
+            | (*b / 2 == carrier)
+            | (*c / 2 == carrier)
+            | (*d / 2 == carrier);
+        if here {
+            break;
+        }
+        left = others;
+    }
+    let passed = position.len() - left.len();
+    let zone = left.iter().position(|held| *held / 2 == carrier)?;
+    Some(passed + zone)
 }
 
 // Whether a carrier that leaves its zone at the point may go into word w.

@@ -6,11 +6,9 @@
 
 ghost use Rattle.std.specs.Prelude.{◌≡◌, ◌<◌, ◌≤◌, length};
 
+use arrayvec::ArrayVec;
 use std::io;
 use std::io::Read;
-
-// The bytes of a line past these are left out.
-const MOST: usize = 512;
 
 fn say(rt: &impl Print, bytes: &[u8]) -> io::Result<()> {
     let number = match board::read(bytes) {
@@ -52,24 +50,25 @@ fn digit(c: Option<&u8>) -> u8
     }
 }
 
-// Each line of text; its board is put together in bytes.
-fn vectors(rt: &impl Print, text: &[u8], board: &mut Vec<u8>) -> io::Result<()> {
+// Each line of text; its board is put together in bytes, of which those past 512 are left out.
+fn vectors(rt: &impl Print, text: &[u8]) -> io::Result<()> {
+    let mut board: ArrayVec<u8, 512> = ArrayVec::new();
     let mut rest = text.iter();
     while let Some(c) = rest.next() {
         match *c {
             b'\n' => {
-                say(rt, board)?;
+                say(rt, &board)?;
                 board.clear();
             }
             b'=' => {
-                say_all(rt, board)?;
+                say_all(rt, &board)?;
                 board.clear();
                 rest.next();
             }
             b' ' => {
                 let byte = 16 * digit(rest.next()) + digit(rest.next());
-                if board.len() < MOST {
-                    board.push(byte)?;
+                if !board.is_full() {
+                    board.push(byte);
                 }
             }
             c => rt.write_all(&[c])?,
@@ -113,8 +112,7 @@ fn long_inputs(rt: &impl Print, bytes: &mut [u8]) -> io::Result<()>
 fn main(rt: HostRuntime) -> io::Result<()> {
     let mut text = Vec::new(rt.alloc());
     rt.reader().take(65536).read_to_end(&mut text)?;
-    let mut board = Vec::new(rt.alloc());
-    vectors(&rt, &text, &mut board)?;
+    vectors(&rt, &text)?;
     let mut long = longest();
     long_inputs(&rt, &mut long)
 }

@@ -2,7 +2,7 @@
 ghost use Rattle.std.specs.Prelude.{◌<◌};
 
 use crate::say;
-use std::alloc::Global;
+use arrayvec::ArrayVec;
 use std::io;
 
 // The part of a line that a character is in.
@@ -26,13 +26,14 @@ impl Part {
     }
 }
 
-// What was read of a line: the part that it is in, the operation's first letter, the numbers and the bytes.
+// What was read of a line: the part that it is in, the operation's first letter, the numbers and the bytes, of each as many as there is room for.
+// None is on the heap, so that no line fails for want of memory.
 #[derive(Drop)]
 struct Line {
     part: Part,
     letter: Option<u8>,
-    numbers: Vec<u16>,
-    bytes: Vec<u8>,
+    numbers: ArrayVec<u16, 32>,
+    bytes: ArrayVec<u8, 512>,
 }
 
 // The value of a decimal or hexadecimal digit, 0 of what is none, which std has no word for. `board_vectors` has its own: a crate for it would be
@@ -48,31 +49,29 @@ fn digit(c: u8) -> u8
 }
 
 // A space begins one more item, where there is room for it; a digit is the next of the last item.
-fn read_item<T: Copy + Default + Drop, F: Fn(T, u8) -> T>(
-    items: &mut Vec<T>,
-    room: usize,
+fn read_item<T: Copy + Default + Drop, const ROOM: usize, F: Fn(T, u8) -> T>(
+    items: &mut ArrayVec<T, ROOM>,
     c: u8,
     longer: F,
-) -> io::Result<()>
+)
     requires { F.IsAlwaysCallable longer }
 {
     if c != b' ' {
         if let Some(last) = items.last_mut() {
             *last = longer(*last, digit(c));
         }
-    } else if items.len() < room {
-        items.push(T::default())?;
+    } else if !items.is_full() {
+        items.push(T::default());
     }
-    Ok(())
 }
 
 impl Line {
-    fn begin(alloc: Global) -> Line {
+    fn begin() -> Line {
         Line {
             part: Part::Name,
             letter: None,
-            numbers: Vec::new(alloc),
-            bytes: Vec::new(alloc),
+            numbers: ArrayVec::new(),
+            bytes: ArrayVec::new(),
         }
     }
 
@@ -87,24 +86,27 @@ impl Line {
                 }
                 rt.write_all(&[c])
             }
-            Part::Numbers => read_item(
-                &mut self.numbers,
-                32,
-                c,
-                |number, digit| (((number % 6554) as u32 * 10 + digit as u32) % 65536) as u16,
-            ),
-            Part::Bytes => read_item(&mut self.bytes, 512, c, |byte, digit| byte << 4 | digit),
+            Part::Numbers => {
+                read_item(&mut self.numbers, c, |number, digit| {
+                    (((number % 6554) as u32 * 10 + digit as u32) % 65536) as u16
+                });
+                Ok(())
+            }
+            Part::Bytes => {
+                read_item(&mut self.bytes, c, |byte, digit| byte << 4 | digit);
+                Ok(())
+            }
         }
     }
 }
 
 // Each line is answered at its end.
-pub fn answer_all(rt: &impl Print, alloc: Global, text: &[u8]) -> io::Result<()> {
-    let mut line = Line::begin(alloc);
+pub fn answer_all(rt: &impl Print, text: &[u8]) -> io::Result<()> {
+    let mut line = Line::begin();
     for c in text {
         if *c == b'\n' {
             say::run(rt, line.letter, &line.bytes, &line.numbers)?;
-            line = Line::begin(alloc);
+            line = Line::begin();
         } else {
             line.read(rt, *c)?;
         }

@@ -15,5 +15,5 @@ use std::io::Read;
 fn main(rt: HostRuntime) -> io::Result<()> {
     let mut text = Vec::new(rt.alloc());
     rt.reader().take(65536).read_to_end(&mut text)?;
-    line::answer_all(&rt, rt.alloc(), &text)
+    line::answer_all(&rt, &text)
 }

@@ -18,7 +18,8 @@ static uint64_t moves[1];
 
 /* K, whose carrier goes home, with its plan as a sheet, its moves as a log, a log that goes on from home, and a position in which the carrier is in
  * both zones; the far loop, with the sheet that says who is blocked there; T in version 2 with 7 and 263, whose low bytes are equal, with its
- * position. */
+ * position; 96 zones between two points, in which all are blocked, with carriers in an order that the library's sort goes deepest into, so that
+ * what its calls of itself take is measured too, and the sheet that names them. */
 static const uint8_t k[] = {0, 12, 1, 2, 0, 2, 0, 1, 7, 0, 0, 1, 0, 0};
 static const uint16_t plan_of_k[] = {0, 7, 2, 0, 3};
 static const uint16_t moves_of_k[] = {7, 3, 7, NIZKABEL_HOME};
@@ -28,11 +29,20 @@ static const uint8_t far_loop[] = {0, 20, 1, 4, 0, 4, 0, 1, 5, 0, 1, 2, 6, 0, 2,
 static const uint16_t claim[] = {1, 5, 6};
 static const uint8_t wide[] = {0, 14, 2, 2, 0, 2, 0, 1, 0, 7, 0, 0, 1, 1, 7, 0};
 static const uint32_t position_of_wide[] = {2 * 7, 2 * 263};
+static const uint8_t deep_order[] = {
+    90, 86, 38, 52, 78, 42, 8,  60, 53, 10, 65, 83, 39, 68, 80, 35, 21, 15, 77, 43, 58, 49, 66, 92, 45, 55, 93, 63, 89, 34, 67, 1,
+    24, 82, 36, 18, 85, 64, 47, 7,  69, 59, 75, 91, 11, 96, 95, 57, 87, 84, 41, 73, 88, 48, 5,  17, 20, 26, 54, 46, 22, 23, 94, 40,
+    6,  71, 29, 3,  62, 30, 28, 14, 19, 4,  27, 72, 79, 2,  76, 51, 81, 37, 74, 61, 33, 25, 9,  50, 70, 56, 31, 32, 12, 44, 13, 16};
+static uint8_t deep[6 + 4 * 96] = {1, 132, 1, 2, 0, 96};
+static uint16_t claim_deep[1 + 96] = {1};
 static uint32_t number;
 
 static void key(void) { number = nizkabel_key(k, sizeof k, plan, NIZKABEL_PLAN_ROOM, list, NIZKABEL_LIST_ROOM, out); }
 static void key_blocked(void) { number = nizkabel_key(far_loop, sizeof far_loop, plan, NIZKABEL_PLAN_ROOM, list, NIZKABEL_LIST_ROOM, out); }
 static void key_wide(void) { number = nizkabel_key(wide, sizeof wide, plan, NIZKABEL_PLAN_ROOM, list, NIZKABEL_LIST_ROOM, out); }
+static void key_deep(void) { number = nizkabel_key(deep, sizeof deep, plan, NIZKABEL_PLAN_ROOM, list, NIZKABEL_LIST_ROOM, out); }
+static void collapse_deep(void) { number = nizkabel_collapse(deep, sizeof deep, list, NIZKABEL_LIST_ROOM, out); }
+static void mark_deep(void) { number = nizkabel_mark(deep, sizeof deep, claim_deep, 97); }
 static void collapse(void) { number = nizkabel_collapse(far_loop, sizeof far_loop, list, NIZKABEL_LIST_ROOM, out); }
 static void mark(void) { number = nizkabel_mark(k, sizeof k, plan_of_k, 5); }
 static void mark_claim(void) { number = nizkabel_mark(far_loop, sizeof far_loop, claim, 3); }
@@ -68,9 +78,17 @@ static int fits(const char *name, void (*call)(void), uint32_t expected, size_t 
 }
 
 int main(void) {
+    for (int z = 0; z < 96; z++) {
+        deep[6 + 4 * z + 1] = 1;
+        deep[6 + 4 * z + 2] = deep_order[z];
+        claim_deep[1 + z] = (uint16_t)(z + 1);
+    }
     int good = fits("key", key, NIZKABEL_ORDERED, NIZKABEL_STACK);
     good &= fits("key, blocked", key_blocked, NIZKABEL_BLOCKED, NIZKABEL_STACK);
     good &= fits("key, version 2", key_wide, NIZKABEL_BLOCKED, NIZKABEL_STACK);
+    good &= fits("key, deepest sort", key_deep, NIZKABEL_BLOCKED, NIZKABEL_STACK);
+    good &= fits("collapse, deepest sort", collapse_deep, NIZKABEL_COLLAPSED, NIZKABEL_STACK / 2);
+    good &= fits("mark, deepest sort", mark_deep, NIZKABEL_RIGHT, NIZKABEL_STACK / 2);
     good &= fits("collapse", collapse, NIZKABEL_COLLAPSED, NIZKABEL_STACK / 2);
     good &= fits("mark of a plan", mark, NIZKABEL_RIGHT, NIZKABEL_STACK / 2);
     good &= fits("mark of a claim", mark_claim, NIZKABEL_RIGHT, NIZKABEL_STACK / 2);

@@ -56,11 +56,12 @@ impl<const N: usize> Queue<N> {
         self.count += 1;
     }
 
-    // Stores a word at a place, whether it is counted or not.
+    // Stores a word at a place, whether it is counted or not; the count stays.
     pub fn put(&mut self, place: usize, word: usize, from: usize)
         requires { place < length (words_in self.old) }
         ensures words { words_in self.new ≡ slice_set (words_in self.old) place word }
         ensures froms { froms_in self.new ≡ slice_set (froms_in self.old) place from }
+        ensures counted { self.new.count ≡ self.old.count }
     {
         self.found[place] = Found { word, from };
     }

@@ -95,6 +95,10 @@ pub record CountingWords (froms : List ℕ) (place n j : ℕ) : Type 0 where
 pub counting_starts : (froms : List ℕ) (place : ℕ) → CountingWords froms place 1 place
 counting_starts froms place = record { left = []; back = back_starts; counted = refl; bound = omega arith }
 
+-- the next word to count has its place in the list
+pub place_to_count : {froms : List ℕ} {place n j : ℕ} → CountingWords froms place n j → place < length froms → j < length froms
+place_to_count c i = omega (arith, c.back.low)
+
 module _ {froms : List ℕ} {place n j : ℕ} (f : Falling froms place) (c : CountingWords froms place n j) where
   pub counting_more : 0 < j → CountingWords froms place (n + 1) (get_or froms j 0)
   counting_more h = record {
@@ -129,6 +133,10 @@ storing_starts words froms place route e = record {
   where
     some_word : 0 < length (route_to words froms place)
     some_word = back_longer (back_starts {words = words} {froms = froms} {place = place})
+
+-- the next word to store has its place in the list
+pub place_to_store : {words froms : List ℕ} {place : ℕ} {route₀ route : List ℕ} {k j : ℕ} → StoringRoute words froms place route₀ route k j → 0 < k → place < length words → j < length words
+place_to_store s h i = omega (arith, (s.back h).low)
 
 -- a store right before what is stored
 store_before : (l r : List ℕ) (k v : ℕ) → 0 < k → k ≤ length l → set (take k l ++ r) (k - 1) v ≡ take (k - 1) l ++ (v ∷ r)

@@ -109,7 +109,7 @@ fn send_all(
         let Some(Departure { zone, place }) = departure else {
             return Sent { planned, searched };
         };
-        planned = queue::route::write_entry(position[zone] / 2, place, &queue, plan, planned);
+        planned = queue::route::write_entry(position[zone] / 2, place, &queue.found, plan, planned);
         position[zone] = 0;
         queue::sets::add_zone(zone, free);
     }

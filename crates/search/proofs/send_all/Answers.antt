@@ -26,7 +26,7 @@ returns-in_default c = underway_nobody c.rounds.invariant (sought_at None c.in_d
 
 pub write_entry-planned-requires : goal.write_entry-planned-requires
 write_entry-planned-requires c =
-    (omega arith, goes_entry (goes (goal.at.write_entry-planned-requires c).In-Some) _ _ (omega (arith, c.rounds.invariant.carriers_small c.in-Some.field-0.zone)) (omega arith))
+    goes_entry (goes (goal.at.write_entry-planned-requires c).In-Some) _ _ (omega (arith, c.rounds.invariant.carriers_small c.in-Some.field-0.zone)) (omega arith)
 
 pub rounds-smaller : goal.rounds-smaller
 rounds-smaller c = goes_smaller (goes (goal.at.rounds-smaller c).In-Some)

@@ -4,10 +4,10 @@ use Rattle.queue.proofs.InCode.{froms_length, from_at}
 use Rattle.queue.proofs.Queue.found_from.Goals as goal
 
 pub offset_bounds-self-place : goal.offset_bounds-self-place
-offset_bounds-self-place g c = omega (arith, froms_length c.args.self.now)
+offset_bounds-self-place g c = omega (arith, froms_length c.args.self.now.found)
 
 pub bounds-self-place : goal.bounds-self-place
-bounds-self-place g c = omega (arith, froms_length c.args.self.now)
+bounds-self-place g c = omega (arith, froms_length c.args.self.now.found)
 
 pub returns : goal.returns
 returns g c = from_at _ _

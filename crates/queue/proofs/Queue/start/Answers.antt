@@ -5,7 +5,7 @@ use Rattle.queue.proofs.InCode.{words_length, starts}
 use Rattle.queue.proofs.Queue.start.Goals as goal
 
 pub push-requires : goal.push-requires
-push-requires g c = (search rules, omega (arith, c.requires, words_length {n = g.row.N} (record { found = c.args.self.now.found; count = 0 })))
+push-requires g c = (search rules, omega (arith, c.requires, words_length c.args.self.now.found))
 
 pub returns : goal.returns
-returns g c = rw (c.push.ensures.words, c.push.ensures.froms, c.push.ensures.longer) (starts {n = g.row.N} (record { found = c.args.self.now.found; count = 0 }) _ (omega arith) c.requires)
+returns g c = rw (c.push.ensures.words, c.push.ensures.froms, c.push.ensures.longer) (starts c.args.self.now.found g.row.N _ (omega arith) c.requires)

@@ -1,12 +1,13 @@
 -- `writer::store::test_and_store` meets its contract: the copy's own rows are tested, and it is stored where none of them holds.
 -- What was drafted is the copy, by the contract of `draft::board`; the rest are laws of Writing.
 use Prim.Native.Nat.{◌≤◌}
-use mathlib.Core.Path.{◌≡◌, refl, sym, ◌∙◌, ap, subst}
+use mathlib.Core.Path.{◌≡◌, sym, ◌∙◌, ap, subst}
 use native.Mathlib.Omega.{arith}
+use Rattle.std.proofs.Common.{rules}
+use Rattle.std.proofs.lemmas.Result.{err_from_is_err_and}
 use lib.ListN.{length, take, replicate}
 use lib.Seq.{length-take-le}
 use Rattle.model.specs.Track.{track_in}
-use Rattle.std.proofs.lemmas.Result.{err_from_is_err_and}
 use Rattle.board.proofs.GivenLaws.{number_positive}
 use Rattle.model.specs.Reading.{Whole, zone_refusal}
 use Rattle.faircopy.specs.BoardBytes.{copy_bytes}
@@ -33,18 +34,18 @@ slice_bounds-draft-end c = inside (goal.at.slice_bounds-draft-end c).After-board
 pub slice_bounds-check-end : goal.slice_bounds-check-end
 slice_bounds-check-end c = sym (length-take-le _ _ (inside (goal.at.slice_bounds-check-end c).After-board))
 
-pub check-requires : goal.check-requires
-check-requires c = subst Whole (sym (draft_is (goal.at.check-requires c).After-board)) (whole_copy _ _)
+pub check-tested-requires : goal.check-tested-requires
+check-tested-requires c = subst Whole (sym (draft_is (goal.at.check-tested-requires c).After-board)) (whole_copy _ _)
 
-pub returns-in_err-check : goal.returns-in_err-check
-returns-in_err-check c =
+pub returns-in_err-tested : goal.returns-in_err-tested
+returns-in_err-tested c =
     let p = err_from_is_err_and c.from_residual.result c.from_residual.ensures.1 in
-    rw (p.1, p.2) (copy_refused _ _ c.requires.track c.args.copy.now (c.in_err-check.ensures ∙ ap zone_refusal (draft_is (goal.at.returns-in_err-check c).After-board)) (number_positive _))
+    rw (p.1, p.2) (copy_refused _ _ c.requires.track c.args.copy.now (search rules ∙ ap zone_refusal (draft_is (goal.at.returns-in_err-tested c).After-board)) (number_positive _))
 
 pub returns : goal.returns
 returns c =
     let counted = copy_count _ _ c.requires.version c.zone_from-count.ensures in
-    copy_stored _ _ c.requires.track c.args.copy.now (c.in_ok-check.ensures ∙ ap zone_refusal (draft_is (goal.at.returns c).After-board)) refl counted
+    copy_stored _ _ c.requires.track c.args.copy.now (c.check-tested.ensures ∙ ap zone_refusal (draft_is (goal.at.returns c).After-board)) (search rules) counted
     (copied_whole c.args.copy.now (draft_is (goal.at.returns c).After-board) c.from_start.ensures)
 
 pub slice_bounds-draft-end-2 : goal.slice_bounds-draft-end-2

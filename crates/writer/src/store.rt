@@ -18,7 +18,7 @@ pub fn test_and_store(contents: &Contents, copy: &mut [u8]) -> Result<usize, Ref
     let count = zone_from(contents.wide, contents.track.head.zones);
     let mut draft = [0u8; 486];
     draft::board(contents, &mut draft);
-    // By a name of its own, which the proof speaks of.
+    // Apart from its `?`, so that an edit can change what it gave.
     let tested = board::zones::check(&draft[..count]);
     tested?;
     overwrite::from_start(&draft[..count], copy);
